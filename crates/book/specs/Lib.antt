@@ -1,0 +1,17 @@
+pub mod Sizes
+pub mod Cells
+pub mod Cases
+pub mod Folds
+pub mod Sets
+pub mod Answers
+pub mod Servers
+pub mod Views
+pub mod Setup
+pub mod SessionSteps
+pub mod CommitSteps
+pub mod ReplicationSteps
+pub mod GossipSteps
+pub mod Refusals
+pub mod Steps
+pub mod WellFormed
+pub mod Reached
