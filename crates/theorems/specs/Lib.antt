@@ -1,1 +1,10 @@
 pub mod Step
+pub mod Inv
+pub mod Gossip
+pub mod Clocks
+pub mod Install
+pub mod Sent
+pub mod Deliver
+pub mod Transactions
+pub mod Begun
+pub mod Reach
