@@ -8,3 +8,6 @@ pub mod Deliver
 pub mod Transactions
 pub mod Begun
 pub mod Reach
+pub mod Writer
+pub mod SnapshotRead
+pub mod LaterView
