@@ -34,6 +34,10 @@ has-place σ I t p l =
     (λ c. let z = I .states .free t p (leb-true (σ Transactions) t c) in absurd (omega arith))
     (λ c. le-trans (leb-false (σ Transactions) t c) (I .states .places))
 
+pub install-hybrid : (σ : Store) (h p h′ p′ : ℕ) → σ (Hybrid h′ p′) ≤ install σ h p (Hybrid h′ p′)
+install-hybrid σ h p =
+    hybrid-rises σ h p (hybridAfter σ h p) (by-test (hasPrepared σ h p) (λ c. rw c (omega arith)) (λ c. rw c (omega arith)))
+
 module _ (σ : Store) (I : Inv σ) (h p : ℕ) where
   pub clock-grows : σ (Entry h p h) ≤ versionClock σ h p
   clock-grows =
@@ -65,10 +69,6 @@ module _ (σ : Store) (I : Inv σ) (h p : ℕ) where
       rw (c, at-same (Hybrid h p)) (omega arith))
       (λ c. rw (c, at-same (Hybrid h p)) (omega arith))
 
-  install-hybrid : (h′ p′ : ℕ) → σ (Hybrid h′ p′) ≤ install σ h p (Hybrid h′ p′)
-  install-hybrid =
-      hybrid-rises σ h p (hybridAfter σ h p) (by-test (hasPrepared σ h p) (λ c. rw c (omega arith)) (λ c. rw c (omega arith)))
-
   pub install-grown : Grown σ (install σ h p)
   install-grown h′ p′ g′ =
       by-cell (Entry h p h) (Entry h′ p′ g′)
@@ -80,10 +80,10 @@ module _ (σ : Store) (I : Inv σ) (h p : ℕ) where
     own = λ h′ p′.
         by-cell (Entry h p h) (Entry h′ p′ h′)
         (λ q c. rw (c, ← q .i, ← q .j) clock-hybrid)
-        (λ c. rw c (le-trans (I .clocks .own h′ p′) (install-hybrid h′ p′)));
+        (λ c. rw c (le-trans (I .clocks .own h′ p′) (install-hybrid σ h p h′ p′)));
     proposed = λ t p′ e.
         let u = unwritten (eqb p p′ && installs σ h p t) installed _ prepared (λ x. omega arith) e in
-        le-trans (I .clocks .proposed t p′ (u .1)) (install-hybrid (writer σ t p′) p′);
+        le-trans (I .clocks .proposed t p′ (u .1)) (install-hybrid σ h p (writer σ t p′) p′);
     above = λ t p′ e.
         let u = unwritten (eqb p p′ && installs σ h p t) installed _ prepared (λ x. omega arith) e in
         by-cell (Entry h p h) (Entry (writer σ t p′) p′ (writer σ t p′))

@@ -11,3 +11,5 @@ pub mod Reach
 pub mod Writer
 pub mod SnapshotRead
 pub mod LaterView
+pub mod Calls
+pub mod Round
