@@ -13,3 +13,4 @@ pub mod SnapshotRead
 pub mod LaterView
 pub mod Calls
 pub mod Round
+pub mod ReadAnswer
