@@ -19,7 +19,7 @@ use Rattle.theorems.specs.Inv.{Setup, Inv}
 use Rattle.theorems.specs.Gossip.{holds-partition}
 
 -- a set of numbers below n that is not 0 has one
-some-bit : (n m : ℕ) → 0 < m → m < 2 ^ n → (p : ℕ) × (p < n) × (member m p ≡ true)
+pub some-bit : (n m : ℕ) → 0 < m → m < 2 ^ n → (p : ℕ) × (p < n) × (member m p ≡ true)
 some-bit zero m a b = absurd (omega arith)
 some-bit (suc n) m a b =
     by-eq (m % 2) 1

@@ -1,6 +1,6 @@
 -- Clocks and states, over the steps of a transaction.
 use Prim.Native.Nat.{ℕ, _≤_, _<_}
-use mathlib.Core.Bool.{false, _&&_}
+use mathlib.Core.Bool.{Bool, true, false, cond, _&&_}
 use mathlib.Core.Path.{_≡_}
 use mathlib.Core.Logic.{_⊎_, ⊎-elim}
 use native.Mathlib.Nat.{le-trans, le-refl}
@@ -22,6 +22,11 @@ hybrid-rises σ h p x l h′ p′ =
     by-cell (Hybrid h p) (Hybrid h′ p′)
     (λ q c. rw (c, ← q .i, ← q .j) l)
     (λ c. rw c (le-refl _))
+
+-- a state that is there stays there
+pub state-stays : (b : Bool) (v n : ℕ) → 0 < v → 0 < n → 0 < cond b v n
+state-stays true v n l m = l
+state-stays false v n l m = m
 
 -- a pair's state that becomes v
 module _ (σ : Store) (I : Inv σ) (t p v : ℕ) where
@@ -72,7 +77,8 @@ module _ (σ : Store) (I : Inv σ) (t p : ℕ) (tb : t < σ Transactions) (pb : 
   }
 
 -- Commit
-module _ (σ : Store) (I : Inv σ) (t p : ℕ) (tb : t < σ Transactions) (pb : p < partitionsMax) (is : σ (State t p) ≡ prepared) (d : 0 < σ (CommitTime t)) where
+module _ (σ : Store) (I : Inv σ) (t p : ℕ) (tb : t < σ Transactions) (pb : p < partitionsMax) (is : σ (State t p) ≡ prepared)
+    (d : 0 < σ (CommitTime t)) where
   commit-hybrid : (h′ p′ : ℕ) → σ (Hybrid h′ p′) ≤ commit σ t p (Hybrid h′ p′)
   commit-hybrid = hybrid-rises σ (writer σ t p) p (commitment σ t p) (omega arith)
 

@@ -61,7 +61,8 @@ module _ (σ : Store) (I : Inv σ) where
     shared = I .gossip .shared;
     stable = λ a b h′ p′ g e e′.
         by-cell (Stable h p) (Stable a b)
-        (λ q c. let l = lowest-le hallsMax (λ f. ltb f (σ Halls)) (λ f. σ (Shared h f)) h′ (hall-fits σ (I .setup) h′ p′ e) (lt-ltb _ _ (holds-hall σ h′ p′ e)) in
+        (λ q c. let b = lt-ltb h′ (σ Halls) (holds-hall σ h′ p′ e) in
+        let l = lowest-le hallsMax (λ f. ltb f (σ Halls)) (λ f. σ (Shared h f)) h′ (hall-fits σ (I .setup) h′ p′ e) b in
         let n = I .gossip .shared h h′ p′ g e e′ in
         let o = I .gossip .stable h p h′ p′ g e e′ in
         rw c (omega arith))

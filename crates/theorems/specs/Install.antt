@@ -27,12 +27,15 @@ installs-is σ h p t e =
 stays-above : (σ : Store) (h p t : ℕ) → installs σ h p t ≡ false → σ (State t p) ≡ waiting → writer σ t p ≡ h → versionClock σ h p < σ (CommitTime t)
 stays-above σ h p t e s w = leb-false (σ (CommitTime t)) (versionClock σ h p) (rw (eq-eqb _ _ s, eq-eqb _ _ w) at e)
 
--- a transaction with a state has a place
-pub has-place : (σ : Store) → Inv σ → (t p : ℕ) → 0 < σ (State t p) → t < placesMax
-has-place σ I t p l =
+-- a transaction with a state has been asked for, and has a place
+pub has-asked : (σ : Store) → Inv σ → (t p : ℕ) → 0 < σ (State t p) → t < σ Transactions
+has-asked σ I t p l =
     by-test (leb (σ Transactions) t)
     (λ c. let z = I .states .free t p (leb-true (σ Transactions) t c) in absurd (omega arith))
-    (λ c. le-trans (leb-false (σ Transactions) t c) (I .states .places))
+    (λ c. leb-false (σ Transactions) t c)
+
+pub has-place : (σ : Store) → Inv σ → (t p : ℕ) → 0 < σ (State t p) → t < placesMax
+has-place σ I t p l = le-trans (has-asked σ I t p l) (I .states .places)
 
 pub install-hybrid : (σ : Store) (h p h′ p′ : ℕ) → σ (Hybrid h′ p′) ≤ install σ h p (Hybrid h′ p′)
 install-hybrid σ h p =

@@ -14,3 +14,4 @@ pub mod LaterView
 pub mod Calls
 pub mod Round
 pub mod ReadAnswer
+pub mod OwnWrites

@@ -1,5 +1,5 @@
 -- "A full round": every stable time is then at least L.
-use Prim.Native.Nat.{ℕ, _+_, _%_, _≤_, _<_}
+use Prim.Native.Nat.{ℕ, _≤_, _<_}
 use mathlib.Core.Bool.{Bool, true, false, _&&_, not, true≢false}
 use mathlib.Core.Path.{_≡_, refl, sym, _∙_}
 use mathlib.Core.List.{List, _++_}
@@ -8,7 +8,7 @@ use native.Mathlib.Omega.{arith}
 use lib.Dec.{eqb, ltb, leb}
 use borrow.Author.Tests.{eqb-true, eqb-false, eq-eqb, ne-eqb, ltb-true, lt-ltb, leb-true, not-true}
 use Rattle.book.specs.Sizes.{hallsMax, partitionsMax, placesMax, slots}
-use Rattle.book.specs.Cells.{Store, same, Halls, Stable, Entry, State, prepared, First, Waiting, Note, Shared}
+use Rattle.book.specs.Cells.{Store, same, Halls, Stable, Entry, State, prepared, Waiting, Note, Shared}
 use Rattle.book.specs.Cases.{by-test, by-eq, by-cell, and-true, at-same, eqb-refl}
 use Rattle.book.specs.Folds.{any, lowest, any-true, any-i, lowest-le, lowest-ge}
 use Rattle.book.specs.Servers.{holds}
@@ -67,11 +67,14 @@ module _ (σ : Store) (U : Setup σ) (L : ℕ) where
       (w .0, v .0, eqb-false f g (not-true (eqb f g) (v .1)))
 
   -- two steps of one code at servers are at different servers
-  apart : (n : ℕ) (x y : Call) → AtServer n x → AtServer n y → sameCall x y ≡ false → (z : Bool) → (eqb (x .b) (y .b) && (eqb (x .a) (y .a) && z)) ≡ false
+  apart : (n : ℕ) (x y : Call) → AtServer n x → AtServer n y → sameCall x y ≡ false
+      → (z : Bool) → (eqb (x .b) (y .b) && (eqb (x .a) (y .a) && z)) ≡ false
   apart n x y S T e z =
+      let code = eq-eqb (x .code) (y .code) (S .code ∙ sym (T .code)) in
+      let rest = eq-eqb (x .c) (y .c) (S .rest ∙ sym (T .rest)) in
       by-test (eqb (x .b) (y .b))
       (λ c. by-test (eqb (x .a) (y .a))
-      (λ d. let f = rw (eq-eqb (x .code) (y .code) (S .code ∙ sym (T .code)), c, d, eq-eqb (x .c) (y .c) (S .rest ∙ sym (T .rest))) at e in absurd (true≢false f))
+      (λ d. absurd (true≢false (rw (code, d, c, rest) at e)))
       (λ d. rw (c, d)))
       (λ c. rw c)
 
@@ -140,7 +143,8 @@ module _ (σ : Store) (U : Setup σ) (L : ℕ) where
         own = rw (at-same (Entry (x .a) (x .b) (x .a))) high;
         one = λ g e. rw (goes x τ K g e, T .empty g e);
         sent = λ g e.
-            let first : eqb (nextSlot τ g (x .b) (x .a)) (slotOf τ g (x .b) (x .a) 0) ≡ true = rw (T .empty g e) (eqb-refl ((τ (First g (x .b) (x .a)) + 0) % slots)) in
+            let first : eqb (nextSlot τ g (x .b) (x .a)) (slotOf τ g (x .b) (x .a) 0) ≡ true =
+            rw (T .empty g e) (eqb-refl (slotOf τ g (x .b) (x .a) 0)) in
             rw (goes x τ K g e, first) high;
       }
 
@@ -305,9 +309,9 @@ module _ (σ : Store) (U : Setup σ) (L : ℕ) where
               (w5 .2 (call 13 h p 0) (server-call 13 h p e)),
         )
 
--- Take a reached store with no prepared transaction and empty channels. An install at each server, a delivery in each channel, a report of each server,
--- a share between each two halls and a learn at each server, in any order inside each of these five groups and nothing between: none of them is
--- turned away, and every stable time is then at least L.
+-- Take a reached store with no prepared transaction and empty channels. An install at each server, a delivery in each channel, a report of
+-- each server, a share from each hall to each, a learn at each server, in any order inside each of these five groups and nothing between: none
+-- of them is turned away, and every stable time is then at least L.
 pub full-round : {σ : Store} → Reached σ
     → ((t p : ℕ) → t < placesMax → p < partitionsMax → σ (State t p) ≡ prepared → ⊥)
     → ((p f g : ℕ) → isChannel σ p f g ≡ true → σ (Waiting g p f) ≡ 0)

@@ -8,13 +8,14 @@ use native.Mathlib.Omega.{arith}
 use lib.Dec.{eqb, ltb}
 use borrow.Author.Tests.{eqb-true, eqb-false, eq-eqb, ne-eqb, not-true, lt-ltb}
 use Rattle.book.specs.Sizes.{hallsMax, placesMax, slots}
-use Rattle.book.specs.Cells.{Store, Partitions, Entry, Held, CommitTime, First, Waiting}
+use Rattle.book.specs.Cells.{Store, Entry, Held, CommitTime, installed, First, Waiting}
 use Rattle.book.specs.Cases.{by-test, by-eq, by-cell, and-true, eqb-refl, at-same}
 use Rattle.book.specs.Sets.{member, setOf, member-setOf}
-use Rattle.book.specs.Servers.{holds, writer}
+use Rattle.book.specs.Servers.{holds, partitionOf, writer}
 use Rattle.book.specs.ReplicationSteps.{versionClock, installs, isQuiet, sendsTo, outgoing, slotOf, nextSlot, install}
 use Rattle.theorems.specs.Inv.{clockAt, setAt, Channels, Holding, Writes, Inv}
 use Rattle.theorems.specs.Gossip.{hall-fits, grow-gossip}
+use Rattle.theorems.specs.Clocks.{state-stays}
 use Rattle.theorems.specs.Install.{installs-is, has-place, clock-grows, install-grown, install-clocks, install-states}
 
 -- slots of one ring: the next is none of those in use
@@ -163,10 +164,7 @@ module _ (σ : Store) (I : Inv σ) (h p : ℕ) (room : (g : ℕ) → g < hallsMa
   install-writes : Writes (install σ h p)
   install-writes = record {
     from = I .writes .from;
-    written = λ t k b e.
-        by-test (eqb p (k % σ Partitions) && installs σ h p t)
-        (λ c. rw c (omega arith))
-        (λ c. rw c (I .writes .written t k b e));
+    written = λ t k b e. state-stays (eqb p (partitionOf σ k) && installs σ h p t) installed _ (omega arith) (I .writes .written t k b e);
   }
 
   pub install-inv : Inv (install σ h p)

@@ -67,7 +67,9 @@ held-decided σ I S B k h kb e =
     rw (lt-ltb 0 (σ (CommitTime t)) (I .holding .done h (partitionOf σ k) t (eqb-true _ _ (a .0)))) (a .1))
     (λ c. let a = and-true (decided σ t) _ c in
     let b = and-true (member (σ (KeySet t)) k) _ (a .1) in
-    let x = decided-held σ I S B t (partitionOf σ k) h (mod-lt k (I .setup .partitions .0)) (I .writes .written t k kb (b .0)) (ltb-true _ _ (a .0)) (leb-true _ _ (b .1)) e in
+    let there = mod-lt k (I .setup .partitions .0) in
+    let some = I .writes .written t k kb (b .0) in
+    let x = decided-held σ I S B t (partitionOf σ k) h there some (ltb-true _ _ (a .0)) (leb-true _ _ (b .1)) e in
     rw (eq-eqb (σ (Held h (partitionOf σ k) t)) 1 x) (a .1)))
     (λ t tb c. refl)
 

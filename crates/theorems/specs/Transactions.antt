@@ -16,7 +16,7 @@ use Rattle.book.specs.SessionSteps.{touches, ask}
 use Rattle.book.specs.CommitSteps.{prepare, decide, commit}
 use Rattle.theorems.specs.Inv.{Holding, Writes, Inv}
 use Rattle.theorems.specs.Gossip.{holds-hall}
-use Rattle.theorems.specs.Clocks.{prepare-clocks, prepare-states, commit-clocks, commit-states, decide-grows, decide-clocks, decide-states, ask-other, ask-old, ask-clocks, ask-states}
+use Rattle.theorems.specs.Clocks.{state-stays, prepare-clocks, prepare-states, commit-clocks, commit-states, decide-grows, decide-clocks, decide-states, ask-other, ask-old, ask-clocks, ask-states}
 
 module _ (σ : Store) (I : Inv σ) where
   -- Prepare and Commit: a pair's state becomes v, which is neither none nor installed
@@ -31,10 +31,7 @@ module _ (σ : Store) (I : Inv σ) where
     state-writes : Writes (σ ⟨ State t p ≔ v ⟩)
     state-writes = record {
       from = I .writes .from;
-      written = λ t′ k b e.
-          by-test (same (State t p) (State t′ (partitionOf σ k)))
-          (λ c. rw c some)
-          (λ c. rw c (I .writes .written t′ k b e));
+      written = λ t′ k b e. state-stays (same (State t p) (State t′ (partitionOf σ k))) v _ some (I .writes .written t′ k b e);
     }
 
   pub prepare-inv : (t p : ℕ) → t < σ Transactions → p < σ Partitions → σ (State t p) ≡ asked → Inv (prepare σ t p)
