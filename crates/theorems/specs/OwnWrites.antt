@@ -9,8 +9,8 @@ use lib.Dec.{eqb, leb}
 use borrow.Author.Tests.{eq-eqb, ne-eqb, leb-true}
 use Rattle.book.specs.Sizes.{partitionsMax, keys}
 use Rattle.book.specs.Cells.{Store, same, _⟨_≔_⟩, Transactions, Status, idle, running, committing, Snapshot, LastCommit, WriteSet, CacheTime, By, CommitTime, KeySet, State, asked, prepared, waiting, installed, Proposed}
-use Rattle.book.specs.Cases.{by-test, by-eq, by-cell, unwritten, and-i, eqb-refl, at-same}
-use Rattle.book.specs.Folds.{any-i, largest-ge}
+use Rattle.book.specs.Cases.{by-test, by-eq, by-cell, unwritten, eqb-refl, at-same}
+use Rattle.book.specs.Folds.{largest-ge}
 use Rattle.book.specs.Sets.{member, include-lt}
 use Rattle.book.specs.Servers.{partitionOf}
 use Rattle.book.specs.SessionSteps.{snapshot, start, write, touches, ask}
@@ -21,6 +21,7 @@ use Rattle.theorems.specs.Step.{Step, next, by-reached}
 use Rattle.theorems.specs.Inv.{Inv}
 use Rattle.theorems.specs.Clocks.{state-stays}
 use Rattle.theorems.specs.Install.{has-asked}
+use Rattle.theorems.specs.Transactions.{touches-i}
 use Rattle.theorems.specs.Begun.{some-bit}
 use Rattle.theorems.specs.Reach.{reached-inv}
 
@@ -152,11 +153,9 @@ module _ (σ : Store) (I : Inv σ) (O : Own σ) where
       some = λ t b. by-eq (σ Transactions) t
           (λ q c.
           let k = some-bit keys (σ (WriteSet s)) (omega arith) (O .sets s) in
-          let p = partitionOf σ (k .0) in
           let l = mod-lt (k .0) (I .setup .partitions .0) in
-          let z : touches σ (σ (WriteSet s)) p ≡ true =
-          any-i keys (λ k′. member (σ (WriteSet s)) k′ && eqb (partitionOf σ k′) p) (k .0) (k .1) (and-i (member (σ (WriteSet s)) (k .0)) _ (k .2) (eqb-refl p)) in
-          (p, le-trans l (I .setup .partitions .1), rw (c, z) (omega arith)))
+          let z = touches-i σ (σ (WriteSet s)) (k .0) (k .1) (k .2) in
+          (partitionOf σ (k .0), le-trans l (I .setup .partitions .1), rw (c, z) (omega arith)))
           (λ q c. let w = O .some t (omega arith) in (w .0, w .1, rw c (w .2)));
       busy = λ t b u. by-eq (σ Transactions) t
           (λ q c. rw (c, eqb-refl s))
@@ -273,7 +272,8 @@ reached-own =
 -- A running session sees what it wrote: each of its transactions is decided, and what it wrote to a key is at or below the session's snapshot, or the
 -- key is cached at that time or later.
 pub own-writes : {σ : Store} → Reached σ → (s t : ℕ) → σ (Status s) ≡ running → t < σ Transactions → σ (By t) ≡ s
-    → (0 < σ (CommitTime t)) × ((k : ℕ) → member (σ (KeySet t)) k ≡ true → (σ (CommitTime t) ≤ σ (Snapshot s)) ⊎ (σ (CommitTime t) ≤ σ (CacheTime s k)))
+    → (0 < σ (CommitTime t))
+    × ((k : ℕ) → member (σ (KeySet t)) k ≡ true → (σ (CommitTime t) ≤ σ (Snapshot s)) ⊎ (σ (CommitTime t) ≤ σ (CacheTime s k)))
 own-writes {σ} r s t runs b q =
     let O = reached-own r in (
       by-eq (σ (CommitTime t)) 0

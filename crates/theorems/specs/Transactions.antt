@@ -18,6 +18,11 @@ use Rattle.theorems.specs.Inv.{Holding, Writes, Inv}
 use Rattle.theorems.specs.Gossip.{holds-hall}
 use Rattle.theorems.specs.Clocks.{state-stays, prepare-clocks, prepare-states, commit-clocks, commit-states, decide-grows, decide-clocks, decide-states, ask-other, ask-old, ask-clocks, ask-states}
 
+-- a set that has key k has one of k's partition
+pub touches-i : (σ : Store) (m k : ℕ) → k < keys → member m k ≡ true → touches σ m (partitionOf σ k) ≡ true
+touches-i σ m k b e =
+    any-i keys (λ k′. member m k′ && eqb (partitionOf σ k′) (partitionOf σ k)) k b (rw (e, eqb-refl (partitionOf σ k)))
+
 module _ (σ : Store) (I : Inv σ) where
   -- Prepare and Commit: a pair's state becomes v, which is neither none nor installed
   module _ (t p v : ℕ) (some : 0 < v) (other : v ≡ installed → ⊥) where
@@ -107,10 +112,7 @@ module _ (σ : Store) (I : Inv σ) where
           (λ c. rw c (I .writes .from t));
       written = λ t k b e.
           by-test (eqb (σ Transactions) t)
-          (λ c. let e′ : member (σ (WriteSet s)) k ≡ true = rw c at e in
-          let z : touches σ (σ (WriteSet s)) (partitionOf σ k) ≡ true =
-          any-i keys (λ k′. member (σ (WriteSet s)) k′ && eqb (partitionOf σ k′) (partitionOf σ k)) k b (rw (e′, eqb-refl (partitionOf σ k))) in
-          rw (c, z) (omega arith))
+          (λ c. rw (c, touches-i σ (σ (WriteSet s)) k b (rw c at e)) (omega arith))
           (λ c. rw c (I .writes .written t k b (rw c at e)));
     }
 
