@@ -1,0 +1,17 @@
+pub mod Step
+pub mod Inv
+pub mod Gossip
+pub mod Clocks
+pub mod Install
+pub mod Sent
+pub mod Deliver
+pub mod Transactions
+pub mod Begun
+pub mod Reach
+pub mod Writer
+pub mod SnapshotRead
+pub mod LaterView
+pub mod Calls
+pub mod Round
+pub mod ReadAnswer
+pub mod OwnWrites
