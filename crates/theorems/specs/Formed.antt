@@ -1,0 +1,187 @@
+-- What a well formed store has, fact by fact: the yes or no of `wellFormed` as plain facts, in groups.
+use Prim.Native.Nat.{ℕ, zero, suc, _≤_, _<_, _^_}
+use mathlib.Core.Bool.{Bool, true, false, cond, _&&_}
+use mathlib.Core.Path.{_≡_, refl}
+use native.Mathlib.Omega.{arith}
+use lib.Dec.{eqb, ltb, leb}
+use borrow.Author.Tests.{eqb-true, eq-eqb, leb-true, leb-false, ltb-true, le-leb, lt-ltb}
+use Rattle.book.specs.Sizes.{readingMax, keys}
+use Rattle.book.specs.Cells.{Store, Halls, Partitions, Sessions, Transactions, Reading, Hybrid, Stable, Entry, HomeHall, HomePartition, Status, Snapshot, LastCommit, WriteSet, ReadSet, CacheTime, By, From, CommitTime, KeySet, State, Proposed, First, Waiting, ClockSent, Note, Shared}
+use Rattle.book.specs.Cases.{by-test, and-true, and-i, implies, implies-true}
+use Rattle.book.specs.Folds.{all, all-at, all-i, largest-within}
+use Rattle.book.specs.Setup.{goodSetup, partitionsHeld}
+use Rattle.book.specs.Servers.{holds, firstFrom, writer}
+use Rattle.book.specs.WellFormed.{timeBound, keySet, channelOk, serverOk, sessionOk, pairOk, transactionOk, sharedOk, wellFormed}
+
+-- Every timestamp is at most b.
+abbrev pub Times : Store → ℕ → Type 0
+Times σ b = record {
+  clocks : record {
+    hybrid : (h p : ℕ) → h < 4 → p < 4 → σ (Hybrid h p) ≤ b;
+    proposed : (t p : ℕ) → t < 64 → p < 4 → σ (Proposed t p) ≤ b };
+  vectors : record {
+    entry : (h p g : ℕ) → h < 4 → p < 4 → g < 4 → σ (Entry h p g) ≤ b;
+    sent : (g p f n : ℕ) → g < 4 → p < 4 → f < 4 → n < 8 → σ (ClockSent g p f n) ≤ b };
+  gossip : record {
+    stable : (h p : ℕ) → h < 4 → p < 4 → σ (Stable h p) ≤ b;
+    note : (h p : ℕ) → h < 4 → p < 4 → σ (Note h p) ≤ b;
+    shared : (to f : ℕ) → to < 4 → f < 4 → σ (Shared to f) ≤ b };
+  sessions : record {
+    snapshot : (s : ℕ) → s < 16 → σ (Snapshot s) ≤ b;
+    last : (s : ℕ) → s < 16 → σ (LastCommit s) ≤ b;
+    cached : (s k : ℕ) → s < 16 → k < 32 → σ (CacheTime s k) ≤ b };
+  commits : (t : ℕ) → t < 64 → σ (CommitTime t) ≤ b }
+
+abbrev pub Readings : Store → Type 0
+Readings σ = (h p : ℕ) → h < 4 → p < 4 → σ (Reading h p) ≤ readingMax
+
+abbrev pub Channels : Store → Type 0
+Channels σ = record {
+  first : (g p f : ℕ) → g < 4 → p < 4 → f < 4 → σ (First g p f) < 8;
+  waiting : (g p f : ℕ) → g < 4 → p < 4 → f < 4 → σ (Waiting g p f) ≤ 8 }
+
+abbrev pub Running : Store → Type 0
+Running σ = record {
+  status : (s : ℕ) → s < 16 → σ (Status s) ≤ 2;
+  writes : (s : ℕ) → s < 16 → σ (WriteSet s) < 2 ^ keys;
+  reads : (s : ℕ) → s < 16 → σ (ReadSet s) < 2 ^ keys }
+
+abbrev pub Requests : Store → Type 0
+Requests σ = record {
+  places : σ Transactions ≤ 64;
+  session : (t : ℕ) → t < 64 → σ (By t) < σ Sessions;
+  hall : (t : ℕ) → t < 64 → σ (From t) < σ Halls;
+  keys : (t : ℕ) → t < 64 → σ (KeySet t) < 2 ^ keys }
+
+abbrev pub States : Store → Type 0
+States σ = record {
+  range : (t p : ℕ) → t < 64 → p < 4 → σ (State t p) ≤ cond (ltb t (σ Transactions)) 4 0;
+  proposed : (t p : ℕ) → t < 64 → p < 4 → σ (State t p) ≡ 2 → 1 ≤ σ (Proposed t p) }
+
+abbrev pub Formed : Store → Type 0
+Formed σ = record {
+  setup : goodSetup σ ≡ true;
+  readings : Readings σ;
+  times : Times σ (timeBound σ);
+  channels : Channels σ;
+  running : Running σ;
+  requests : Requests σ;
+  states : States σ }
+
+and-l : (a b : Bool) → (a && b) ≡ true → a ≡ true
+and-l a b e = and-true a b e .0
+
+and-r : (a b : Bool) → (a && b) ≡ true → b ≡ true
+and-r a b e = and-true a b e .1
+
+-- the facts of a store that passes
+pub formed : (σ : Store) → wellFormed σ ≡ true → Formed σ
+unfolding wellFormed
+formed σ w =
+    let b = timeBound σ in
+    let servers : all 4 (λ h. all 4 (λ p. serverOk σ b h p)) ≡ true = search (and-l, and-r) in
+    let sessions : all 16 (λ s. sessionOk σ b s) ≡ true = search (and-l, and-r) in
+    let transactions : all 64 (λ t. transactionOk σ b t) ≡ true = search (and-l, and-r) in
+    let notes : all 4 (λ to. all 4 (λ f. sharedOk σ b to f)) ≡ true = search (and-l, and-r) in
+    let server : (h p : ℕ) → h < 4 → p < 4 → serverOk σ b h p ≡ true = λ h p i j. all-at 4 _ (all-at 4 _ servers h i) p j in
+    let halls : (h p : ℕ) → h < 4 → p < 4 → all 4 (λ g. leb (σ (Entry h p g)) b && channelOk σ b h p g) ≡ true =
+      λ h p i j. let c = server h p i j in search (and-l, and-r) in
+    let hall : (h p g : ℕ) → h < 4 → p < 4 → g < 4 → (leb (σ (Entry h p g)) b && channelOk σ b h p g) ≡ true =
+      λ h p g i j l. all-at 4 _ (halls h p i j) g l in
+    let session : (s : ℕ) → s < 16 → sessionOk σ b s ≡ true = all-at 16 _ sessions in
+    let transaction : (t : ℕ) → t < 64 → transactionOk σ b t ≡ true = all-at 64 _ transactions in
+    let pairs : (t : ℕ) → t < 64 → all 4 (λ p. pairOk σ b t p) ≡ true = λ t i. let c = transaction t i in search (and-l, and-r) in
+    let pair : (t p : ℕ) → t < 64 → p < 4 → pairOk σ b t p ≡ true = λ t p i j. all-at 4 _ (pairs t i) p j in
+    record {
+      setup = search (and-l, and-r);
+      readings = λ h p i j. let c = server h p i j in search (and-l, and-r, leb-true);
+      times = record {
+        clocks = record {
+          hybrid = λ h p i j. let c = server h p i j in search (and-l, and-r, leb-true);
+          proposed = λ t p i j. let c = pair t p i j in search (and-l, and-r, leb-true) };
+        vectors = record {
+          entry = λ h p g i j l. let c = hall h p g i j l in search (and-l, and-r, leb-true);
+          sent = λ g p f n i j l m. let c = hall g p f i j l in leb-true _ _ (all-at 8 (λ n. leb (σ (ClockSent g p f n)) b) (search (and-l, and-r)) n m) };
+        gossip = record {
+          stable = λ h p i j. let c = server h p i j in search (and-l, and-r, leb-true);
+          note = λ h p i j. let c = server h p i j in search (and-l, and-r, leb-true);
+          shared = λ to f i j. leb-true _ _ (all-at 4 _ (all-at 4 _ notes to i) f j) };
+        sessions = record {
+          snapshot = λ s i. let c = session s i in search (and-l, and-r, leb-true);
+          last = λ s i. let c = session s i in search (and-l, and-r, leb-true);
+          cached = λ s k i j. let c = session s i in leb-true _ _ (all-at 32 (λ k. leb (σ (CacheTime s k)) b) (search (and-l, and-r)) k j) };
+        commits = λ t i. let c = transaction t i in search (and-l, and-r, leb-true) };
+      channels = record {
+        first = λ g p f i j l. let c = hall g p f i j l in search (and-l, and-r, ltb-true);
+        waiting = λ g p f i j l. let c = hall g p f i j l in search (and-l, and-r, leb-true) };
+      running = record {
+        status = λ s i. let c = session s i in search (and-l, and-r, leb-true);
+        writes = λ s i. let c = session s i in search (and-l, and-r, ltb-true);
+        reads = λ s i. let c = session s i in search (and-l, and-r, ltb-true) };
+      requests = record {
+        places = search (and-l, and-r, leb-true);
+        session = λ t i. let c = transaction t i in search (and-l, and-r, ltb-true);
+        hall = λ t i. let c = transaction t i in search (and-l, and-r, ltb-true);
+        keys = λ t i. let c = transaction t i in search (and-l, and-r, ltb-true) };
+      states = record {
+        range = λ t p i j. let c = pair t p i j in search (and-l, and-r, leb-true);
+        proposed = λ t p i j e.
+          let c = pair t p i j in
+          leb-true _ _ (implies-true (eqb (σ (State t p)) 2) (leb 1 (σ (Proposed t p))) (search (and-l, and-r)) (eq-eqb (σ (State t p)) 2 e)) } }
+
+implies-i : (a b : Bool) → (a ≡ true → b ≡ true) → implies a b ≡ true
+implies-i true b f = f refl
+implies-i false b f = refl
+
+-- a store with the facts passes
+pub well-formed : (σ : Store) → Formed σ → wellFormed σ ≡ true
+unfolding wellFormed
+well-formed σ F =
+    let T = F .times in
+    search
+    (and-i, all-i, le-leb, lt-ltb, implies-i, eqb-true, F .readings, F .states .range, F .states .proposed,
+    T .clocks .hybrid, T .clocks .proposed, T .vectors .entry, T .vectors .sent, T .gossip .stable, T .gossip .note, T .gossip .shared,
+    T .sessions .snapshot, T .sessions .last, T .sessions .cached, T .commits, F .channels .first, F .channels .waiting,
+    F .running .status, F .running .writes, F .running .reads, F .requests .session, F .requests .hall, F .requests .keys)
+    depth 20 fits 4000
+
+-- what a good setup gives
+abbrev pub Layout : Store → Type 0
+Layout σ = record {
+  halls : σ Halls ≤ 4;
+  partitions : σ Partitions ≤ 4;
+  sessions : σ Sessions ≤ 16;
+  homes : (s : ℕ) → s < σ Sessions → holds σ (σ (HomeHall s)) (σ (HomePartition s)) ≡ true }
+
+pub layout : (σ : Store) → goodSetup σ ≡ true → Layout σ
+layout σ e =
+    let sessions : σ Sessions ≤ 16 = search (and-l, and-r, leb-true) in
+    let held : eqb (σ Partitions) (partitionsHeld σ) ≡ true = search (and-l, and-r) in
+    let homes : all 16 (λ s. implies (ltb s (σ Sessions)) (holds σ (σ (HomeHall s)) (σ (HomePartition s)))) ≡ true = search (and-l, and-r) in
+    record {
+      halls = search (and-l, and-r, leb-true);
+      partitions = rw (eqb-true (σ Partitions) (partitionsHeld σ) held) (largest-within 4 _ (λ p. suc p) 4 (λ p l. l));
+      sessions = sessions;
+      homes = λ s l. implies-true (ltb s (σ Sessions)) _ (all-at 16 _ homes s (omega arith)) (lt-ltb s (σ Sessions) l) }
+
+-- a server's numbers are below how many there are, and small
+pub server-in : (σ : Store) (h p : ℕ) → holds σ h p ≡ true → (h < σ Halls) × (p < σ Partitions)
+server-in σ h p e = search (and-l, and-r, ltb-true)
+
+pub server-small : (σ : Store) → Layout σ → (h p : ℕ) → holds σ h p ≡ true → (h < 4) × (p < 4)
+server-small σ L h p e = let w = server-in σ h p e in omega arith
+
+from-small : (ok : ℕ → Bool) (m n h : ℕ) → h < m → firstFrom ok m n h < m
+unfolding firstFrom
+from-small ok m zero h l = l
+from-small ok m (suc n) h l =
+    by-test (ok h)
+    (λ c. rw c l)
+    (λ c. rw c (from-small ok m n _ (by-test (leb m (suc h)) (λ d. rw d (omega arith)) (λ d. let x = leb-false m (suc h) d in rw d (omega arith)))))
+
+-- the writing hall of a transaction is small
+pub writer-small : (σ : Store) → Formed σ → (t p : ℕ) → t < 64 → writer σ t p < 4
+writer-small σ F t p i =
+    let a = layout σ (F .setup) .halls in
+    let b = from-small (λ h. holds σ h p) (σ Halls) (σ Halls) (σ (From t)) (F .requests .hall t i) in
+    omega arith

@@ -1,0 +1,4 @@
+pub mod Step
+pub mod Tally
+pub mod Formed
+pub mod Kept

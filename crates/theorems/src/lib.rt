@@ -1,0 +1,1 @@
+// Theorems about the book: this crate has no code.
