@@ -148,8 +148,10 @@ well-formed σ F =
 -- what a good setup gives
 abbrev pub Layout : Store → Type 0
 Layout σ = record {
+  hall : 1 ≤ σ Halls;
   halls : σ Halls ≤ 4;
   partitions : σ Partitions ≤ 4;
+  session : 1 ≤ σ Sessions;
   sessions : σ Sessions ≤ 16;
   homes : (s : ℕ) → s < σ Sessions → holds σ (σ (HomeHall s)) (σ (HomePartition s)) ≡ true }
 
@@ -159,8 +161,10 @@ layout σ e =
     let held : eqb (σ Partitions) (partitionsHeld σ) ≡ true = search (and-l, and-r) in
     let homes : all 16 (λ s. implies (ltb s (σ Sessions)) (holds σ (σ (HomeHall s)) (σ (HomePartition s)))) ≡ true = search (and-l, and-r) in
     record {
+      hall = search (and-l, and-r, leb-true);
       halls = search (and-l, and-r, leb-true);
       partitions = rw (eqb-true (σ Partitions) (partitionsHeld σ) held) (largest-within 4 _ (λ p. suc p) 4 (λ p l. l));
+      session = search (and-l, and-r, leb-true);
       sessions = sessions;
       homes = λ s l. implies-true (ltb s (σ Sessions)) _ (all-at 16 _ homes s (omega arith)) (lt-ltb s (σ Sessions) l) }
 

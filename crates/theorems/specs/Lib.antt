@@ -2,3 +2,4 @@ pub mod Step
 pub mod Tally
 pub mod Formed
 pub mod Kept
+pub mod WellFormedKept
