@@ -6,67 +6,56 @@ use native.Mathlib.Omega.{arith}
 use lib.Dec.{eqb, ltb, leb}
 use borrow.Author.Tests.{eqb-true, eq-eqb, leb-true, leb-false, ltb-true, le-leb, lt-ltb}
 use Rattle.book.specs.Sizes.{readingMax, keys}
-use Rattle.book.specs.Cells.{Store, Halls, Partitions, Sessions, Transactions, Reading, Hybrid, Stable, Entry, HomeHall, HomePartition, Status, Snapshot, LastCommit, WriteSet, ReadSet, CacheTime, By, From, CommitTime, KeySet, State, Proposed, First, Waiting, ClockSent, Note, Shared}
+use Rattle.book.specs.Cells.{Cell, Store, Halls, Partitions, Sessions, Transactions, Reading, Hybrid, Stable, Entry, HomeHall, HomePartition, Status, Snapshot, LastCommit, WriteSet, ReadSet, CacheTime, By, From, CommitTime, KeySet, State, Proposed, First, Waiting, ClockSent, Note, Shared}
 use Rattle.book.specs.Cases.{by-test, and-true, and-i, implies, implies-true}
 use Rattle.book.specs.Folds.{all, all-at, all-i, largest-within}
 use Rattle.book.specs.Setup.{goodSetup, partitionsHeld}
 use Rattle.book.specs.Servers.{holds, firstFrom, writer}
-use Rattle.book.specs.WellFormed.{timeBound, keySet, channelOk, serverOk, sessionOk, pairOk, transactionOk, sharedOk, wellFormed}
+use Rattle.book.specs.WellFormed.{timeBound, channelOk, serverOk, sessionOk, pairOk, transactionOk, sharedOk, wellFormed}
 
--- Every timestamp is at most b.
+-- P holds of the cells c i, c i j, .. with i below l, j below m, ..
+abbrev pub All1 : (ℕ → Type 0) → Store → (ℕ → Cell) → ℕ → Type 0
+All1 P σ c l = (i : ℕ) → i < l → P (σ (c i))
+
+abbrev pub All2 : (ℕ → Type 0) → Store → (ℕ → ℕ → Cell) → ℕ → ℕ → Type 0
+All2 P σ c l m = (i j : ℕ) → i < l → j < m → P (σ (c i j))
+
+abbrev pub All3 : (ℕ → Type 0) → Store → (ℕ → ℕ → ℕ → Cell) → ℕ → ℕ → ℕ → Type 0
+All3 P σ c l m n = (i j k : ℕ) → i < l → j < m → k < n → P (σ (c i j k))
+
+-- every timestamp is at most b
 abbrev pub Times : Store → ℕ → Type 0
 Times σ b = record {
-  clocks : record {
-    hybrid : (h p : ℕ) → h < 4 → p < 4 → σ (Hybrid h p) ≤ b;
-    proposed : (t p : ℕ) → t < 64 → p < 4 → σ (Proposed t p) ≤ b };
-  vectors : record {
-    entry : (h p g : ℕ) → h < 4 → p < 4 → g < 4 → σ (Entry h p g) ≤ b;
-    sent : (g p f n : ℕ) → g < 4 → p < 4 → f < 4 → n < 8 → σ (ClockSent g p f n) ≤ b };
-  gossip : record {
-    stable : (h p : ℕ) → h < 4 → p < 4 → σ (Stable h p) ≤ b;
-    note : (h p : ℕ) → h < 4 → p < 4 → σ (Note h p) ≤ b;
-    shared : (to f : ℕ) → to < 4 → f < 4 → σ (Shared to f) ≤ b };
-  sessions : record {
-    snapshot : (s : ℕ) → s < 16 → σ (Snapshot s) ≤ b;
-    last : (s : ℕ) → s < 16 → σ (LastCommit s) ≤ b;
-    cached : (s k : ℕ) → s < 16 → k < 32 → σ (CacheTime s k) ≤ b };
-  commits : (t : ℕ) → t < 64 → σ (CommitTime t) ≤ b }
-
-abbrev pub Readings : Store → Type 0
-Readings σ = (h p : ℕ) → h < 4 → p < 4 → σ (Reading h p) ≤ readingMax
-
-abbrev pub Channels : Store → Type 0
-Channels σ = record {
-  first : (g p f : ℕ) → g < 4 → p < 4 → f < 4 → σ (First g p f) < 8;
-  waiting : (g p f : ℕ) → g < 4 → p < 4 → f < 4 → σ (Waiting g p f) ≤ 8 }
-
-abbrev pub Running : Store → Type 0
-Running σ = record {
-  status : (s : ℕ) → s < 16 → σ (Status s) ≤ 2;
-  writes : (s : ℕ) → s < 16 → σ (WriteSet s) < 2 ^ keys;
-  reads : (s : ℕ) → s < 16 → σ (ReadSet s) < 2 ^ keys }
-
-abbrev pub Requests : Store → Type 0
-Requests σ = record {
-  places : σ Transactions ≤ 64;
-  session : (t : ℕ) → t < 64 → σ (By t) < σ Sessions;
-  hall : (t : ℕ) → t < 64 → σ (From t) < σ Halls;
-  keys : (t : ℕ) → t < 64 → σ (KeySet t) < 2 ^ keys }
-
-abbrev pub States : Store → Type 0
-States σ = record {
-  range : (t p : ℕ) → t < 64 → p < 4 → σ (State t p) ≤ cond (ltb t (σ Transactions)) 4 0;
-  proposed : (t p : ℕ) → t < 64 → p < 4 → σ (State t p) ≡ 2 → 1 ≤ σ (Proposed t p) }
+  hybrid : All2 (_≤ b) σ Hybrid 4 4;
+  stable : All2 (_≤ b) σ Stable 4 4;
+  entry : All3 (_≤ b) σ Entry 4 4 4;
+  snapshot : All1 (_≤ b) σ Snapshot 16;
+  last : All1 (_≤ b) σ LastCommit 16;
+  cached : All2 (_≤ b) σ CacheTime 16 32;
+  commit : All1 (_≤ b) σ CommitTime 64;
+  proposed : All2 (_≤ b) σ Proposed 64 4;
+  sent : (g p f n : ℕ) → g < 4 → p < 4 → f < 4 → n < 8 → σ (ClockSent g p f n) ≤ b;
+  note : All2 (_≤ b) σ Note 4 4;
+  shared : All2 (_≤ b) σ Shared 4 4;
+}
 
 abbrev pub Formed : Store → Type 0
 Formed σ = record {
   setup : goodSetup σ ≡ true;
-  readings : Readings σ;
   times : Times σ (timeBound σ);
-  channels : Channels σ;
-  running : Running σ;
-  requests : Requests σ;
-  states : States σ }
+  reading : All2 (_≤ readingMax) σ Reading 4 4;
+  first : All3 (_< 8) σ First 4 4 4;
+  waiting : All3 (_≤ 8) σ Waiting 4 4 4;
+  status : All1 (_≤ 2) σ Status 16;
+  writes : All1 (_< 2 ^ keys) σ WriteSet 16;
+  reads : All1 (_< 2 ^ keys) σ ReadSet 16;
+  places : σ Transactions ≤ 64;
+  session : All1 (_< σ Sessions) σ By 64;
+  hall : All1 (_< σ Halls) σ From 64;
+  keys : All1 (_< 2 ^ keys) σ KeySet 64;
+  state : (t p : ℕ) → t < 64 → p < 4 → σ (State t p) ≤ cond (ltb t (σ Transactions)) 4 0;
+  prepared : (t p : ℕ) → t < 64 → p < 4 → σ (State t p) ≡ 2 → 1 ≤ σ (Proposed t p);
+}
 
 and-l : (a b : Bool) → (a && b) ≡ true → a ≡ true
 and-l a b e = and-true a b e .0
@@ -85,49 +74,45 @@ formed σ w =
     let notes : all 4 (λ to. all 4 (λ f. sharedOk σ b to f)) ≡ true = search (and-l, and-r) in
     let server : (h p : ℕ) → h < 4 → p < 4 → serverOk σ b h p ≡ true = λ h p i j. all-at 4 _ (all-at 4 _ servers h i) p j in
     let halls : (h p : ℕ) → h < 4 → p < 4 → all 4 (λ g. leb (σ (Entry h p g)) b && channelOk σ b h p g) ≡ true =
-      λ h p i j. let c = server h p i j in search (and-l, and-r) in
+    λ h p i j. let c = server h p i j in search (and-l, and-r) in
     let hall : (h p g : ℕ) → h < 4 → p < 4 → g < 4 → (leb (σ (Entry h p g)) b && channelOk σ b h p g) ≡ true =
-      λ h p g i j l. all-at 4 _ (halls h p i j) g l in
+    λ h p g i j l. all-at 4 _ (halls h p i j) g l in
     let session : (s : ℕ) → s < 16 → sessionOk σ b s ≡ true = all-at 16 _ sessions in
     let transaction : (t : ℕ) → t < 64 → transactionOk σ b t ≡ true = all-at 64 _ transactions in
     let pairs : (t : ℕ) → t < 64 → all 4 (λ p. pairOk σ b t p) ≡ true = λ t i. let c = transaction t i in search (and-l, and-r) in
     let pair : (t p : ℕ) → t < 64 → p < 4 → pairOk σ b t p ≡ true = λ t p i j. all-at 4 _ (pairs t i) p j in
     record {
       setup = search (and-l, and-r);
-      readings = λ h p i j. let c = server h p i j in search (and-l, and-r, leb-true);
       times = record {
-        clocks = record {
-          hybrid = λ h p i j. let c = server h p i j in search (and-l, and-r, leb-true);
-          proposed = λ t p i j. let c = pair t p i j in search (and-l, and-r, leb-true) };
-        vectors = record {
-          entry = λ h p g i j l. let c = hall h p g i j l in search (and-l, and-r, leb-true);
-          sent = λ g p f n i j l m. let c = hall g p f i j l in leb-true _ _ (all-at 8 (λ n. leb (σ (ClockSent g p f n)) b) (search (and-l, and-r)) n m) };
-        gossip = record {
-          stable = λ h p i j. let c = server h p i j in search (and-l, and-r, leb-true);
-          note = λ h p i j. let c = server h p i j in search (and-l, and-r, leb-true);
-          shared = λ to f i j. leb-true _ _ (all-at 4 _ (all-at 4 _ notes to i) f j) };
-        sessions = record {
-          snapshot = λ s i. let c = session s i in search (and-l, and-r, leb-true);
-          last = λ s i. let c = session s i in search (and-l, and-r, leb-true);
-          cached = λ s k i j. let c = session s i in leb-true _ _ (all-at 32 (λ k. leb (σ (CacheTime s k)) b) (search (and-l, and-r)) k j) };
-        commits = λ t i. let c = transaction t i in search (and-l, and-r, leb-true) };
-      channels = record {
-        first = λ g p f i j l. let c = hall g p f i j l in search (and-l, and-r, ltb-true);
-        waiting = λ g p f i j l. let c = hall g p f i j l in search (and-l, and-r, leb-true) };
-      running = record {
-        status = λ s i. let c = session s i in search (and-l, and-r, leb-true);
-        writes = λ s i. let c = session s i in search (and-l, and-r, ltb-true);
-        reads = λ s i. let c = session s i in search (and-l, and-r, ltb-true) };
-      requests = record {
-        places = search (and-l, and-r, leb-true);
-        session = λ t i. let c = transaction t i in search (and-l, and-r, ltb-true);
-        hall = λ t i. let c = transaction t i in search (and-l, and-r, ltb-true);
-        keys = λ t i. let c = transaction t i in search (and-l, and-r, ltb-true) };
-      states = record {
-        range = λ t p i j. let c = pair t p i j in search (and-l, and-r, leb-true);
-        proposed = λ t p i j e.
+        hybrid = λ h p i j. let c = server h p i j in search (and-l, and-r, leb-true);
+        stable = λ h p i j. let c = server h p i j in search (and-l, and-r, leb-true);
+        entry = λ h p g i j l. let c = hall h p g i j l in search (and-l, and-r, leb-true);
+        snapshot = λ s i. let c = session s i in search (and-l, and-r, leb-true);
+        last = λ s i. let c = session s i in search (and-l, and-r, leb-true);
+        cached = λ s k i j. let c = session s i in leb-true _ _ (all-at 32 (λ k. leb (σ (CacheTime s k)) b) (search (and-l, and-r)) k j);
+        commit = λ t i. let c = transaction t i in search (and-l, and-r, leb-true);
+        proposed = λ t p i j. let c = pair t p i j in search (and-l, and-r, leb-true);
+        sent = λ g p f n i j l m.
+            let c = hall g p f i j l in leb-true _ _ (all-at 8 (λ n. leb (σ (ClockSent g p f n)) b) (search (and-l, and-r)) n m);
+        note = λ h p i j. let c = server h p i j in search (and-l, and-r, leb-true);
+        shared = λ to f i j. leb-true _ _ (all-at 4 _ (all-at 4 _ notes to i) f j);
+      };
+      reading = λ h p i j. let c = server h p i j in search (and-l, and-r, leb-true);
+      first = λ g p f i j l. let c = hall g p f i j l in search (and-l, and-r, ltb-true);
+      waiting = λ g p f i j l. let c = hall g p f i j l in search (and-l, and-r, leb-true);
+      status = λ s i. let c = session s i in search (and-l, and-r, leb-true);
+      writes = λ s i. let c = session s i in search (and-l, and-r, ltb-true);
+      reads = λ s i. let c = session s i in search (and-l, and-r, ltb-true);
+      places = search (and-l, and-r, leb-true);
+      session = λ t i. let c = transaction t i in search (and-l, and-r, ltb-true);
+      hall = λ t i. let c = transaction t i in search (and-l, and-r, ltb-true);
+      keys = λ t i. let c = transaction t i in search (and-l, and-r, ltb-true);
+      state = λ t p i j. let c = pair t p i j in search (and-l, and-r, leb-true);
+      prepared = λ t p i j e.
           let c = pair t p i j in
-          leb-true _ _ (implies-true (eqb (σ (State t p)) 2) (leb 1 (σ (Proposed t p))) (search (and-l, and-r)) (eq-eqb (σ (State t p)) 2 e)) } }
+          leb-true _ _
+          (implies-true (eqb (σ (State t p)) 2) (leb 1 (σ (Proposed t p))) (search (and-l, and-r)) (eq-eqb (σ (State t p)) 2 e));
+    }
 
 implies-i : (a b : Bool) → (a ≡ true → b ≡ true) → implies a b ≡ true
 implies-i true b f = f refl
@@ -138,12 +123,36 @@ pub well-formed : (σ : Store) → Formed σ → wellFormed σ ≡ true
 unfolding wellFormed
 well-formed σ F =
     let T = F .times in
-    search
-    (and-i, all-i, le-leb, lt-ltb, implies-i, eqb-true, F .readings, F .states .range, F .states .proposed,
-    T .clocks .hybrid, T .clocks .proposed, T .vectors .entry, T .vectors .sent, T .gossip .stable, T .gossip .note, T .gossip .shared,
-    T .sessions .snapshot, T .sessions .last, T .sessions .cached, T .commits, F .channels .first, F .channels .waiting,
-    F .running .status, F .running .writes, F .running .reads, F .requests .session, F .requests .hall, F .requests .keys)
-    depth 20 fits 4000
+    search (
+      and-i,
+      all-i,
+      le-leb,
+      lt-ltb,
+      implies-i,
+      eqb-true,
+      T .hybrid,
+      T .stable,
+      T .entry,
+      T .snapshot,
+      T .last,
+      T .cached,
+      T .commit,
+      T .proposed,
+      T .sent,
+      T .note,
+      T .shared,
+      F .reading,
+      F .first,
+      F .waiting,
+      F .status,
+      F .writes,
+      F .reads,
+      F .session,
+      F .hall,
+      F .keys,
+      F .state,
+      F .prepared,
+    ) depth 20 fits 4000
 
 -- what a good setup gives
 abbrev pub Layout : Store → Type 0
@@ -153,7 +162,8 @@ Layout σ = record {
   partitions : σ Partitions ≤ 4;
   session : 1 ≤ σ Sessions;
   sessions : σ Sessions ≤ 16;
-  homes : (s : ℕ) → s < σ Sessions → holds σ (σ (HomeHall s)) (σ (HomePartition s)) ≡ true }
+  homes : (s : ℕ) → s < σ Sessions → holds σ (σ (HomeHall s)) (σ (HomePartition s)) ≡ true;
+}
 
 pub layout : (σ : Store) → goodSetup σ ≡ true → Layout σ
 layout σ e =
@@ -166,7 +176,8 @@ layout σ e =
       partitions = rw (eqb-true (σ Partitions) (partitionsHeld σ) held) (largest-within 4 _ (λ p. suc p) 4 (λ p l. l));
       session = search (and-l, and-r, leb-true);
       sessions = sessions;
-      homes = λ s l. implies-true (ltb s (σ Sessions)) _ (all-at 16 _ homes s (omega arith)) (lt-ltb s (σ Sessions) l) }
+      homes = λ s l. implies-true (ltb s (σ Sessions)) _ (all-at 16 _ homes s (omega arith)) (lt-ltb s (σ Sessions) l);
+    }
 
 -- a server's numbers are below how many there are, and small
 pub server-in : (σ : Store) (h p : ℕ) → holds σ h p ≡ true → (h < σ Halls) × (p < σ Partitions)
@@ -187,5 +198,5 @@ from-small ok m (suc n) h l =
 pub writer-small : (σ : Store) → Formed σ → (t p : ℕ) → t < 64 → writer σ t p < 4
 writer-small σ F t p i =
     let a = layout σ (F .setup) .halls in
-    let b = from-small (λ h. holds σ h p) (σ Halls) (σ Halls) (σ (From t)) (F .requests .hall t i) in
+    let b = from-small (λ h. holds σ h p) (σ Halls) (σ Halls) (σ (From t)) (F .hall t i) in
     omega arith

@@ -1,39 +1,62 @@
 -- Every step keeps a store well formed.
-use Prim.Native.Nat.{ℕ, suc, _+_, _-_, _≤_, _<_, _^_, max}
+use Prim.Native.Nat.{ℕ, suc, _-_, _≤_, _<_, _^_}
 use mathlib.Core.Bool.{Bool, true, false, cond, _&&_}
-use mathlib.Core.Path.{_≡_, refl}
+use mathlib.Core.Path.{_≡_}
 use mathlib.Core.Logic.{⊎-elim}
 use native.Mathlib.Nat.{le-trans}
 use native.Mathlib.Omega.{arith}
 use lib.Dec.{eqb, ltb, leb}
 use borrow.Author.Tests.{lt-ltb, le-ltb, ltb-true, eqb-true}
 use Rattle.book.specs.Sizes.{readingMax, keys}
-use Rattle.book.specs.Cells.{Store, same, _⟨_≔_⟩, Halls, Partitions, Sessions, Transactions, Reading, Hybrid, Stable, Entry, HomeHall, HomePartition, Status, Snapshot, LastCommit, WriteSet, ReadSet, CacheTime, By, From, CommitTime, KeySet, State, Proposed, First, Waiting, ClockSent, Note, Shared}
-use Rattle.book.specs.Cases.{by-test, by-eq, by-cell, and-true, unwritten, at-same, eqb-refl}
-use Rattle.book.specs.Folds.{lowest, lowest-within, largest-within}
-use Rattle.book.specs.Sets.{member, include, include-lt}
-use Rattle.book.specs.Servers.{holds, atHome, writer}
-use Rattle.book.specs.WellFormed.{pairsPrepared, timeBound, wellFormed}
+use Rattle.book.specs.Cells.{Cell, Store, same, _⟨_≔_⟩, Halls, Partitions, Sessions, Transactions, Reading, Hybrid, Stable, Entry, HomeHall, HomePartition, Status, Snapshot, LastCommit, WriteSet, ReadSet, CacheTime, By, From, CommitTime, KeySet, State, Proposed, First, Waiting, ClockSent, Note, Shared}
+use Rattle.book.specs.Cases.{by-test, by-eq, by-cell, and-true, unwritten, at-same}
+use Rattle.book.specs.Folds.{lowest-within, largest-within}
+use Rattle.book.specs.Sets.{member, include-lt}
+use Rattle.book.specs.Servers.{holds, writer}
+use Rattle.book.specs.WellFormed.{timeBound, wellFormed}
 use Rattle.book.specs.Answers.{numbers}
 use Rattle.book.specs.SessionSteps.{snapshot, start, read, write, ask, readAnswer, touches}
 use Rattle.book.specs.CommitSteps.{tick, proposal, prepare, decision, decide, commitment, commit}
-use Rattle.book.specs.ReplicationSteps.{preparedAt, hasPrepared, versionClock, hybridAfter, installs, sendsTo, outgoing, nextSlot, slotOf, install, clockCarried, deliver}
-use Rattle.book.specs.GossipSteps.{lowestEntry, report, lowestOf, share, lowestShared, learn}
+use Rattle.book.specs.ReplicationSteps.{preparedAt, hasPrepared, versionClock, hybridAfter, installs, sendsTo, outgoing, nextSlot, slotOf, install, deliver}
+use Rattle.book.specs.GossipSteps.{lowestEntry, report, lowestOf, share, lowestShared, stableAfter, learn}
 use Rattle.book.specs.Steps.{after}
 use Rattle.theorems.specs.Step.{Step, next, step-or-same}
 use Rattle.theorems.specs.Tally.{prepared-le, prepared-lt}
-use Rattle.theorems.specs.Formed.{Times, Readings, Channels, Running, Requests, States, Formed, formed, well-formed, Layout, layout, server-in, server-small, writer-small}
+use Rattle.theorems.specs.Formed.{All1, All2, All3, Times, Formed, formed, well-formed, Layout, layout, server-in, server-small, writer-small}
 
 -- what holds of both holds of the one that is chosen
 of-both : (P : ℕ → Type 0) (b : Bool) (v w : ℕ) → P v → P w → P (cond b v w)
 of-both P true v w x y = x
 of-both P false v w x y = y
 
+-- a number that passes, written to one cell or to several, leaves cells that all pass
+module _ (P : ℕ → Type 0) (σ : Store) where
+  put1 : {l : ℕ} (c : ℕ → Cell) (i v : ℕ) → P v → All1 P σ c l → All1 P (σ ⟨ c i ≔ v ⟩) c l
+  put1 c i v x A = λ a r. of-both P (eqb (c i .kind) (c a .kind) && same (c i) (c a)) v _ x (A a r)
+
+  put2 : {l m : ℕ} (c : ℕ → ℕ → Cell) (i j v : ℕ) → P v → All2 P σ c l m → All2 P (σ ⟨ c i j ≔ v ⟩) c l m
+  put2 c i j v x A = λ a b r s. of-both P (eqb (c i j .kind) (c a b .kind) && same (c i j) (c a b)) v _ x (A a b r s)
+
+  put3 : {l m n : ℕ} (c : ℕ → ℕ → ℕ → Cell) (i j k v : ℕ) → P v → All3 P σ c l m n → All3 P (σ ⟨ c i j k ≔ v ⟩) c l m n
+  put3 c i j k v x A =
+      λ a b d r s t. of-both P (eqb (c i j k .kind) (c a b d .kind) && same (c i j k) (c a b d)) v _ x (A a b d r s t)
+
 times-le : (σ : Store) (b c : ℕ) → b ≤ c → Times σ b → Times σ c
 times-le σ b c l T =
-    search
-    (le-trans, T .clocks .hybrid, T .clocks .proposed, T .vectors .entry, T .vectors .sent, T .gossip .stable, T .gossip .note,
-    T .gossip .shared, T .sessions .snapshot, T .sessions .last, T .sessions .cached, T .commits)
+    search (
+      le-trans,
+      T .hybrid,
+      T .stable,
+      T .entry,
+      T .snapshot,
+      T .last,
+      T .cached,
+      T .commit,
+      T .proposed,
+      T .sent,
+      T .note,
+      T .shared,
+    )
 
 -- a place that is free has no state, and a state's limit does not fall as places are taken
 limit-le : (t a b : ℕ) → a ≤ b → cond (ltb t a) 4 0 ≤ cond (ltb t b) 4 0
@@ -47,278 +70,206 @@ limit-some true l = omega arith
 limit-some false l = absurd (omega arith)
 
 module _ (σ : Store) (F : Formed σ) where
-  pub tick-formed : (h p x : ℕ) → x ≤ readingMax → Formed (tick σ h p x)
-  tick-formed h p x l = record {
-    setup = F .setup; times = F .times; channels = F .channels; running = F .running; requests = F .requests; states = F .states;
-    readings = λ a c i j. of-both (_≤ readingMax) (same (Reading h p) (Reading a c)) _ _ l (F .readings a c i j) }
+  abbrev b : ℕ
+  b = timeBound σ
 
-  pub start-formed : (s : ℕ) → s < σ Sessions → Formed (start σ s)
+  abbrev T : Times σ b
+  T = F .times
+
+  L : Layout σ
+  L = layout σ (F .setup)
+
+  tick-formed : (h p x : ℕ) → x ≤ readingMax → Formed (tick σ h p x)
+  tick-formed h p x l = let reading = put2 (_≤ readingMax) σ Reading h p x l (F .reading) in search
+
+  start-formed : (s : ℕ) → s < σ Sessions → Formed (start σ s)
   start-formed s l =
-      let L = layout σ (F .setup) in
-      let T = F .times in
-      let b = timeBound σ in
-      let home = server-small σ L (σ (HomeHall s)) (σ (HomePartition s)) (L .homes s l) in
-      let x = T .gossip .stable (σ (HomeHall s)) (σ (HomePartition s)) (home .0) (home .1) in
-      let y = T .sessions .snapshot s (omega arith) in
+      let h = σ (HomeHall s) in
+      let p = σ (HomePartition s) in
+      let home = server-small σ L h p (L .homes s l) in
+      let x = T .stable h p (home .0) (home .1) in
+      let y = T .snapshot s (omega (arith, L)) in
       let new : snapshot σ s ≤ b = omega arith in
-      record {
-        setup = F .setup; readings = F .readings; channels = F .channels; requests = F .requests; states = F .states;
-        times = record {
-          clocks = T .clocks; vectors = T .vectors; commits = T .commits;
-          gossip = record {
-            note = T .gossip .note; shared = T .gossip .shared;
-            stable = λ a c i j. of-both (_≤ b) (same (atHome σ Stable s) (Stable a c)) _ _ new (T .gossip .stable a c i j) };
-          sessions = record {
-            last = T .sessions .last;
-            snapshot = λ a i. of-both (_≤ b) (same (Snapshot s) (Snapshot a)) _ _ new (T .sessions .snapshot a i);
-            cached = λ a k i j. of-both (_≤ b) (eqb s a && leb (σ (CacheTime a k)) (snapshot σ s)) _ _ (omega arith) (T .sessions .cached a k i j) } };
-        running = record {
-          status = λ a i. of-both (_≤ 2) (same (Status s) (Status a)) _ _ (omega arith) (F .running .status a i);
-          writes = λ a i. of-both (_< 2 ^ keys) (same (WriteSet s) (WriteSet a)) _ _ (omega arith) (F .running .writes a i);
-          reads = λ a i. of-both (_< 2 ^ keys) (same (ReadSet s) (ReadSet a)) _ _ (omega arith) (F .running .reads a i) } }
+      let stable = put2 (_≤ b) σ Stable h p _ new (T .stable) in
+      let snapshots = put1 (_≤ b) σ Snapshot s _ new (T .snapshot) in
+      let cached : All2 (_≤ b) (start σ s) CacheTime 16 32 =
+      λ a k i j. of-both (_≤ b) (eqb s a && leb (σ (CacheTime a k)) (snapshot σ s)) _ _ (omega arith) (T .cached a k i j) in
+      let status = put1 (_≤ 2) σ Status s 1 (omega arith) (F .status) in
+      let writes = put1 (_< 2 ^ keys) σ WriteSet s 0 (omega arith) (F .writes) in
+      let reads = put1 (_< 2 ^ keys) σ ReadSet s 0 (omega arith) (F .reads) in
+      search
 
-  pub read-formed : (s k h : ℕ) → s < σ Sessions → k < keys → Formed (read σ s k h)
+  read-formed : (s k h : ℕ) → s < σ Sessions → k < keys → Formed (read σ s k h)
   read-formed s k h l m =
-      let L = layout σ (F .setup) in
-      let x = F .running .reads s (omega arith) in
+      let x = F .reads s (omega (arith, L)) in
       let new = of-both (_< 2 ^ keys) (eqb (numbers (readAnswer σ s k h) .first) 1) _ _ (include-lt 32 _ k x m) x in
-      record {
-        setup = F .setup; readings = F .readings; times = F .times; channels = F .channels; requests = F .requests; states = F .states;
-        running = record {
-          status = F .running .status; writes = F .running .writes;
-          reads = λ a i. of-both (_< 2 ^ keys) (same (ReadSet s) (ReadSet a)) _ _ new (F .running .reads a i) } }
+      let reads = put1 (_< 2 ^ keys) σ ReadSet s _ new (F .reads) in
+      search
 
-  pub write-formed : (s k v : ℕ) → s < σ Sessions → k < keys → Formed (write σ s k v)
+  write-formed : (s k v : ℕ) → s < σ Sessions → k < keys → Formed (write σ s k v)
   write-formed s k v l m =
-      let L = layout σ (F .setup) in
-      let new = include-lt 32 _ k (F .running .writes s (omega arith)) m in
-      record {
-        setup = F .setup; readings = F .readings; times = F .times; channels = F .channels; requests = F .requests; states = F .states;
-        running = record {
-          status = F .running .status; reads = F .running .reads;
-          writes = λ a i. of-both (_< 2 ^ keys) (same (WriteSet s) (WriteSet a)) _ _ new (F .running .writes a i) } }
+      let new = include-lt 32 _ k (F .writes s (omega (arith, L))) m in
+      let writes = put1 (_< 2 ^ keys) σ WriteSet s _ new (F .writes) in
+      search
 
-  pub rest-formed : (s : ℕ) → Formed (σ ⟨ Status s ≔ 0 ⟩)
-  rest-formed s = record {
-    setup = F .setup; readings = F .readings; times = F .times; channels = F .channels; requests = F .requests; states = F .states;
-    running = record {
-      writes = F .running .writes; reads = F .running .reads;
-      status = λ a i. of-both (_≤ 2) (same (Status s) (Status a)) _ _ (omega arith) (F .running .status a i) } }
+  rest-formed : (s : ℕ) → Formed (σ ⟨ Status s ≔ 0 ⟩)
+  rest-formed s = let status = put1 (_≤ 2) σ Status s 0 (omega arith) (F .status) in search
 
-  pub ask-formed : (s : ℕ) → s < σ Sessions → σ Transactions < 64 → Formed (ask σ s)
+  ask-formed : (s : ℕ) → s < σ Sessions → σ Transactions < 64 → Formed (ask σ s)
   ask-formed s l m =
-      let L = layout σ (F .setup) in
       let t = σ Transactions in
-      let R = F .requests in
       let home = server-in σ (σ (HomeHall s)) (σ (HomePartition s)) (L .homes s l) .0 in
       let asks : ℕ → ℕ → Bool = λ u p. eqb t u && touches σ (σ (WriteSet s)) p in
       let free : (u p : ℕ) → u < 64 → p < 4 → t ≡ u → σ (State u p) ≤ 0 =
-        λ u p i j q. rw (le-ltb u t (omega arith)) at (F .states .range u p i j) in
-      let up : (u p : ℕ) → u < 64 → p < 4 → σ (State u p) ≤ ask σ s (State u p) = λ u p i j.
-        by-eq t u (λ q c. let x = free u p i j q in omega arith) (λ q c. rw c (omega arith)) in
+      λ u p i j q. rw (le-ltb u t (omega arith)) at (F .state u p i j) in
+      let up : (u p : ℕ) → u < 64 → p < 4 → σ (State u p) ≤ ask σ s (State u p) =
+      λ u p i j. by-eq t u (λ q c. let x = free u p i j q in omega arith) (λ q c. rw c (omega arith)) in
       let more = prepared-le σ (ask σ s) up in
-      record {
-        setup = F .setup; readings = F .readings; channels = F .channels;
-        times = times-le σ (timeBound σ) (timeBound (ask σ s)) (omega arith) (F .times);
-        running = record {
-          writes = F .running .writes; reads = F .running .reads;
-          status = λ a i. of-both (_≤ 2) (same (Status s) (Status a)) _ _ (omega arith) (F .running .status a i) };
-        requests = record {
-          places = m;
-          session = λ u i. of-both (_< σ Sessions) (same (By t) (By u)) _ _ l (R .session u i);
-          hall = λ u i. of-both (_< σ Halls) (same (From t) (From u)) _ _ home (R .hall u i);
-          keys = λ u i. of-both (_< 2 ^ keys) (same (KeySet t) (KeySet u)) _ _ (F .running .writes s (omega arith)) (R .keys u i) };
-        states = record {
-          range = λ u p i j. by-eq t u
-            (λ q c. rw (lt-ltb u (suc t) (omega arith)) (of-both (_≤ 4) (asks u p) _ _ (omega arith) (let x = free u p i j q in omega arith)))
-            (λ q c. rw c (le-trans (F .states .range u p i j) (limit-le u t (suc t) (omega arith))));
-          proposed = λ u p i j e. F .states .proposed u p i j (unwritten (asks u p) 1 _ 2 (λ x. omega arith) e .1) } }
+      let times = times-le σ b (timeBound (ask σ s)) (omega arith) T in
+      let status = put1 (_≤ 2) σ Status s 2 (omega arith) (F .status) in
+      let session = put1 (_< σ Sessions) σ By t s l (F .session) in
+      let hall = put1 (_< σ Halls) σ From t _ home (F .hall) in
+      let keys = put1 (_< 2 ^ keys) σ KeySet t _ (F .writes s (omega (arith, L))) (F .keys) in
+      let state : (u p : ℕ) → u < 64 → p < 4 → ask σ s (State u p) ≤ cond (ltb u (suc t)) 4 0 =
+      λ u p i j. by-eq t u
+      (λ q c. rw (lt-ltb u (suc t) (omega arith))
+      (of-both (_≤ 4) (asks u p) _ _ (omega arith) (let x = free u p i j q in omega arith)))
+      (λ q c. rw c (le-trans (F .state u p i j) (limit-le u t (suc t) (omega arith)))) in
+      let prepared : (u p : ℕ) → u < 64 → p < 4 → ask σ s (State u p) ≡ 2 → 1 ≤ σ (Proposed u p) =
+      λ u p i j e. F .prepared u p i j (unwritten (asks u p) 1 _ 2 (λ x. omega arith) e .1) in
+      search
 
-  pub prepare-formed : (t p : ℕ) → t < σ Transactions → p < σ Partitions → σ (State t p) ≡ 1 → Formed (prepare σ t p)
+  -- a pair's state raised
+  module _ (t p v : ℕ) (l : t < σ Transactions) (m : v ≤ 4) (e : σ (State t p) ≤ v) where
+    raised : (u q : ℕ) → u < 64 → q < 4 → σ (State u q) ≤ (σ ⟨ State t p ≔ v ⟩) (State u q)
+    raised u q i j =
+        by-cell (State t p) (State u q) (λ k c. rw (c, ← k .i, ← k .j) e) (λ c. rw c (omega arith))
+
+    raised-state : (u q : ℕ) → u < 64 → q < 4 → (σ ⟨ State t p ≔ v ⟩) (State u q) ≤ cond (ltb u (σ Transactions)) 4 0
+    raised-state u q i j =
+        by-cell (State t p) (State u q)
+        (λ k c. rw (c, ← k .i, lt-ltb t (σ Transactions) l) m)
+        (λ c. rw c (F .state u q i j))
+
+  prepare-formed : (t p : ℕ) → t < σ Transactions → p < σ Partitions → σ (State t p) ≡ 1 → Formed (prepare σ t p)
   prepare-formed t p l m e =
-      let L = layout σ (F .setup) in
-      let T = F .times in
-      let b = timeBound σ in
-      let U = times-le σ b (suc b) (omega arith) T in
-      let i : t < 64 = omega (arith, F .requests .places) in
-      let j : p < 4 = omega arith in
+      let i : t < 64 = omega (arith, F .places) in
+      let j : p < 4 = omega (arith, L) in
       let w = writer-small σ F t p i in
-      let y = F .requests .session t i in
-      let r = F .readings (writer σ t p) p w j in
-      let h = T .clocks .hybrid (writer σ t p) p w j in
-      let c = T .sessions .last (σ (By t)) (omega arith) in
-      let S = T .sessions .snapshot (σ (By t)) (omega arith) in
-      let new : proposal σ t p ≤ suc b = omega arith in
-      let up : (u q : ℕ) → u < 64 → q < 4 → σ (State u q) ≤ prepare σ t p (State u q) = λ u q _ _.
-        by-cell (State t p) (State u q) (λ k c. rw (c, ← k .i, ← k .j) (omega arith)) (λ c. rw c (omega arith)) in
+      let k = F .session t i in
+      let r = F .reading (writer σ t p) p w j in
+      let h = T .hybrid (writer σ t p) p w j in
+      let c = T .last (σ (By t)) (omega (arith, L)) in
+      let S = T .snapshot (σ (By t)) (omega (arith, L)) in
+      let B = timeBound (prepare σ t p) in
+      let up = raised t p 2 l (omega arith) (omega arith) in
       let more = prepared-lt σ (prepare σ t p) up t p i j (omega arith) (rw (at-same (State t p)) (omega arith)) in
-      record {
-        setup = F .setup; readings = F .readings; channels = F .channels; running = F .running; requests = F .requests;
-        times = times-le (prepare σ t p) (suc b) (timeBound (prepare σ t p)) (omega arith) (record {
-          vectors = U .vectors; gossip = U .gossip; sessions = U .sessions; commits = U .commits;
-          clocks = record {
-            hybrid = λ a c i j. of-both (_≤ suc b) (same (Hybrid (writer σ t p) p) (Hybrid a c)) _ _ new (U .clocks .hybrid a c i j);
-            proposed = λ u q i j. of-both (_≤ suc b) (same (Proposed t p) (Proposed u q)) _ _ new (U .clocks .proposed u q i j) } });
-        states = record {
-          range = λ u q i j. by-cell (State t p) (State u q)
-            (λ k c. rw (c, ← k .i, lt-ltb t (σ Transactions) l) (omega arith))
-            (λ c. rw c (F .states .range u q i j));
-          proposed = λ u q i j e. by-cell (State t p) (State u q)
-            (λ k c. rw c (omega arith))
-            (λ c. rw c (F .states .proposed u q i j (rw c at e))) } }
+      let new : proposal σ t p ≤ B = omega arith in
+      let times = times-le σ b B (omega arith) T in
+      let hybrid = put2 (_≤ B) σ Hybrid (writer σ t p) p _ new (times .hybrid) in
+      let proposed = put2 (_≤ B) σ Proposed t p _ new (times .proposed) in
+      let state = raised-state t p 2 l (omega arith) (omega arith) in
+      let prepared : (u q : ℕ) → u < 64 → q < 4 → prepare σ t p (State u q) ≡ 2 → 1 ≤ prepare σ t p (Proposed u q) =
+      λ u q i j e. by-cell (State t p) (State u q) (λ k c. rw c (omega arith)) (λ c. rw c (F .prepared u q i j (rw c at e))) in
+      search
 
-  pub decide-formed : (t : ℕ) → t < σ Transactions → Formed (decide σ t)
+  decide-formed : (t : ℕ) → t < σ Transactions → Formed (decide σ t)
   decide-formed t l =
-      let T = F .times in
-      let b = timeBound σ in
       let s = σ (By t) in
-      let i : t < 64 = omega (arith, F .requests .places) in
-      let new : decision σ t ≤ b = largest-within 4 _ (λ p. σ (Proposed t p)) b (λ p j. T .clocks .proposed t p i j) in
-      record {
-        setup = F .setup; readings = F .readings; channels = F .channels; requests = F .requests; states = F .states;
-        times = record {
-          clocks = T .clocks; vectors = T .vectors; gossip = T .gossip;
-          commits = λ u i. of-both (_≤ b) (same (CommitTime t) (CommitTime u)) _ _ new (T .commits u i);
-          sessions = record {
-            snapshot = T .sessions .snapshot;
-            last = λ a i. of-both (_≤ b) (same (LastCommit s) (LastCommit a)) _ _ new (T .sessions .last a i);
-            cached = λ a k i j. of-both (_≤ b) (eqb s a && member (σ (KeySet t)) k) _ _ new (T .sessions .cached a k i j) } };
-        running = record {
-          reads = F .running .reads;
-          writes = λ a i. of-both (_< 2 ^ keys) (same (WriteSet s) (WriteSet a)) _ _ (omega arith) (F .running .writes a i);
-          status = λ a i. of-both (_≤ 2) (same (Status s) (Status a)) _ _ (omega arith) (F .running .status a i) } }
+      let i : t < 64 = omega (arith, F .places) in
+      let new : decision σ t ≤ b = largest-within 4 _ (λ p. σ (Proposed t p)) b (λ p j. T .proposed t p i j) in
+      let commit = put1 (_≤ b) σ CommitTime t _ new (T .commit) in
+      let last = put1 (_≤ b) σ LastCommit s _ new (T .last) in
+      let cached : All2 (_≤ b) (decide σ t) CacheTime 16 32 =
+      λ a k i j. of-both (_≤ b) (eqb s a && member (σ (KeySet t)) k) _ _ new (T .cached a k i j) in
+      let writes = put1 (_< 2 ^ keys) σ WriteSet s 0 (omega arith) (F .writes) in
+      let status = put1 (_≤ 2) σ Status s 0 (omega arith) (F .status) in
+      search
 
-  pub commit-formed : (t p : ℕ) → t < σ Transactions → p < σ Partitions → σ (State t p) ≡ 2 → Formed (commit σ t p)
+  commit-formed : (t p : ℕ) → t < σ Transactions → p < σ Partitions → σ (State t p) ≡ 2 → Formed (commit σ t p)
   commit-formed t p l m e =
-      let L = layout σ (F .setup) in
-      let T = F .times in
-      let b = timeBound σ in
-      let i : t < 64 = omega (arith, F .requests .places) in
+      let i : t < 64 = omega (arith, F .places) in
+      let j : p < 4 = omega (arith, L) in
       let w = writer-small σ F t p i in
-      let r = F .readings (writer σ t p) p w (omega arith) in
-      let h = T .clocks .hybrid (writer σ t p) p w (omega arith) in
-      let c = T .commits t i in
-      let new : commitment σ t p ≤ b = omega arith in
-      let up : (u q : ℕ) → u < 64 → q < 4 → σ (State u q) ≤ commit σ t p (State u q) = λ u q _ _.
-        by-cell (State t p) (State u q) (λ k c. rw (c, ← k .i, ← k .j) (omega arith)) (λ c. rw c (omega arith)) in
-      let more = prepared-le σ (commit σ t p) up in
-      record {
-        setup = F .setup; readings = F .readings; channels = F .channels; running = F .running; requests = F .requests;
-        times = times-le (commit σ t p) b (timeBound (commit σ t p)) (omega arith) (record {
-          vectors = T .vectors; gossip = T .gossip; sessions = T .sessions; commits = T .commits;
-          clocks = record {
-            proposed = T .clocks .proposed;
-            hybrid = λ a c i j. of-both (_≤ b) (same (Hybrid (writer σ t p) p) (Hybrid a c)) _ _ new (T .clocks .hybrid a c i j) } });
-        states = record {
-          range = λ u q i j. by-cell (State t p) (State u q)
-            (λ k c. rw (c, ← k .i, lt-ltb t (σ Transactions) l) (omega arith))
-            (λ c. rw c (F .states .range u q i j));
-          proposed = λ u q i j e. F .states .proposed u q i j (unwritten (same (State t p) (State u q)) 3 _ 2 (λ x. omega arith) e .1) } }
+      let r = F .reading (writer σ t p) p w j in
+      let h = T .hybrid (writer σ t p) p w j in
+      let c = T .commit t i in
+      let B = timeBound (commit σ t p) in
+      let more = prepared-le σ (commit σ t p) (raised t p 3 l (omega arith) (omega arith)) in
+      let new : commitment σ t p ≤ B = omega arith in
+      let times = times-le σ b B (omega arith) T in
+      let hybrid = put2 (_≤ B) σ Hybrid (writer σ t p) p _ new (times .hybrid) in
+      let state = raised-state t p 3 l (omega arith) (omega arith) in
+      let prepared : (u q : ℕ) → u < 64 → q < 4 → commit σ t p (State u q) ≡ 2 → 1 ≤ σ (Proposed u q) =
+      λ u q i j e. F .prepared u q i j (unwritten (same (State t p) (State u q)) 3 _ 2 (λ x. omega arith) e .1) in
+      search
 
-  pub install-formed : (h p : ℕ) → holds σ h p ≡ true → ((g : ℕ) → g < 4 → sendsTo σ h p g ≡ true → σ (Waiting g p h) < 8)
+  install-formed : (h p : ℕ) → holds σ h p ≡ true → ((g : ℕ) → g < 4 → sendsTo σ h p g ≡ true → σ (Waiting g p h) < 8)
       → Formed (install σ h p)
   install-formed h p e room =
-      let T = F .times in
-      let b = timeBound σ in
-      let k = server-small σ (layout σ (F .setup)) h p e in
-      let r = F .readings h p (k .0) (k .1) in
-      let y = T .clocks .hybrid h p (k .0) (k .1) in
-      let z = lowest-within 64 (preparedAt σ h p) (λ t. σ (Proposed t p)) b (λ t i. T .clocks .proposed t p i (k .1)) in
-      let clock : versionClock σ h p ≤ b = of-both (_≤ b) (hasPrepared σ h p) _ _ (omega arith) (omega arith) in
-      let hybrid : hybridAfter σ h p ≤ b = of-both (_≤ b) (hasPrepared σ h p) _ _ y (omega arith) in
+      let k = server-small σ L h p e in
+      let r = F .reading h p (k .0) (k .1) in
+      let y = T .hybrid h p (k .0) (k .1) in
+      let z = lowest-within 64 (preparedAt σ h p) (λ t. σ (Proposed t p)) b (λ t i. T .proposed t p i (k .1)) in
       let is : (t q : ℕ) → (eqb p q && installs σ h p t) ≡ true → σ (State t q) ≡ 3 = λ t q c.
-        let a = and-true (eqb p q) _ c in
-        rw (← eqb-true p q (a .0)) (eqb-true (σ (State t p)) 3 (and-true (eqb (σ (State t p)) 3) _ (a .1) .0)) in
+      let a = and-true (eqb p q) _ c in
+      rw (← eqb-true p q (a .0)) (eqb-true (σ (State t p)) 3 (and-true (eqb (σ (State t p)) 3) _ (a .1) .0)) in
       let up : (t q : ℕ) → t < 64 → q < 4 → σ (State t q) ≤ install σ h p (State t q) = λ t q _ _.
-        by-test (eqb p q && installs σ h p t) (λ c. let x = is t q c in rw c (omega arith)) (λ c. rw c (omega arith)) in
+      by-test (eqb p q && installs σ h p t) (λ c. let x = is t q c in rw c (omega arith)) (λ c. rw c (omega arith)) in
+      let B = timeBound (install σ h p) in
       let more = prepared-le σ (install σ h p) up in
-      record {
-        setup = F .setup; readings = F .readings; running = F .running; requests = F .requests;
-        times = times-le (install σ h p) b (timeBound (install σ h p)) (omega arith) (record {
-          gossip = T .gossip; sessions = T .sessions; commits = T .commits;
-          clocks = record {
-            proposed = T .clocks .proposed;
-            hybrid = λ a c i j. of-both (_≤ b) (same (Hybrid h p) (Hybrid a c)) _ _ hybrid (T .clocks .hybrid a c i j) };
-          vectors = record {
-            entry = λ a c g i j l. of-both (_≤ b) (same (Entry h p h) (Entry a c g)) _ _ clock (T .vectors .entry a c g i j l);
-            sent = λ g q f n i j l m.
-              of-both (_≤ b) (outgoing σ h p g q f && eqb (nextSlot σ g q f) n) _ _ clock (T .vectors .sent g q f n i j l m) } });
-        channels = record {
-          first = F .channels .first;
-          waiting = λ g q f i j l. by-test (outgoing σ h p g q f)
-            (λ c. let a = and-true (eqb p q) _ c in
-            let d = and-true (eqb h f) _ (a .1) in
-            rw (c, ← eqb-true p q (a .0), ← eqb-true h f (d .0)) (room g i (d .1)))
-            (λ c. rw c (F .channels .waiting g q f i j l)) };
-        states = record {
-          range = λ t q i j. by-test (eqb p q && installs σ h p t)
-            (λ c. let x = is t q c in let y = F .states .range t q i j in rw c (limit-some (ltb t (σ Transactions)) (omega arith)))
-            (λ c. rw c (F .states .range t q i j));
-          proposed = λ t q i j e. F .states .proposed t q i j (unwritten (eqb p q && installs σ h p t) 4 _ 2 (λ x. omega arith) e .1) } }
+      let clock : versionClock σ h p ≤ B = of-both (_≤ B) (hasPrepared σ h p) _ _ (omega arith) (omega arith) in
+      let after : hybridAfter σ h p ≤ B = of-both (_≤ B) (hasPrepared σ h p) _ _ (omega arith) (omega arith) in
+      let times = times-le σ b B (omega arith) T in
+      let hybrid = put2 (_≤ B) σ Hybrid h p _ after (times .hybrid) in
+      let entry = put3 (_≤ B) σ Entry h p h _ clock (times .entry) in
+      let sent : (g q f n : ℕ) → g < 4 → q < 4 → f < 4 → n < 8 → install σ h p (ClockSent g q f n) ≤ B = λ g q f n i j l m.
+      of-both (_≤ B) (outgoing σ h p g q f && eqb (nextSlot σ g q f) n) _ _ clock (times .sent g q f n i j l m) in
+      let waiting : All3 (_≤ 8) (install σ h p) Waiting 4 4 4 = λ g q f i j l. by-test (outgoing σ h p g q f)
+      (λ c. let a = and-true (eqb p q) _ c in
+      let d = and-true (eqb h f) _ (a .1) in
+      rw (c, ← eqb-true p q (a .0), ← eqb-true h f (d .0)) (room g i (d .1)))
+      (λ c. rw c (F .waiting g q f i j l)) in
+      let state : (t q : ℕ) → t < 64 → q < 4 → install σ h p (State t q) ≤ cond (ltb t (σ Transactions)) 4 0 = λ t q i j.
+      by-test (eqb p q && installs σ h p t)
+      (λ c. let x = is t q c in let y = F .state t q i j in rw c (limit-some (ltb t (σ Transactions)) (omega arith)))
+      (λ c. rw c (F .state t q i j)) in
+      let prepared : (t q : ℕ) → t < 64 → q < 4 → install σ h p (State t q) ≡ 2 → 1 ≤ σ (Proposed t q) =
+      λ t q i j e. F .prepared t q i j (unwritten (eqb p q && installs σ h p t) 4 _ 2 (λ x. omega arith) e .1) in
+      search
 
-  pub deliver-formed : (p f g : ℕ) → holds σ f p ≡ true → holds σ g p ≡ true → Formed (deliver σ p f g)
+  deliver-formed : (p f g : ℕ) → holds σ f p ≡ true → holds σ g p ≡ true → Formed (deliver σ p f g)
   deliver-formed p f g e e′ =
-      let T = F .times in
-      let L = layout σ (F .setup) in
-      let b = timeBound σ in
       let k = server-small σ L f p e in
       let m = server-small σ L g p e′ in
-      let C = F .channels in
-      let new = T .vectors .sent g p f (slotOf σ g p f 0) (m .0) (m .1) (k .0) (omega arith) in
-      let less = C .waiting g p f (m .0) (m .1) (k .0) in
-      record {
-        setup = F .setup; readings = F .readings; running = F .running; requests = F .requests; states = F .states;
-        times = record {
-          clocks = T .clocks; gossip = T .gossip; sessions = T .sessions; commits = T .commits;
-          vectors = record {
-            sent = T .vectors .sent;
-            entry = λ a c d i j l. of-both (_≤ b) (same (Entry g p f) (Entry a c d)) _ _ new (T .vectors .entry a c d i j l) } };
-        channels = record {
-          first = λ a c d i j l. of-both (_< 8) (same (First g p f) (First a c d)) _ _ (omega arith) (C .first a c d i j l);
-          waiting = λ a c d i j l. of-both (_≤ 8) (same (Waiting g p f) (Waiting a c d)) _ _ (omega arith) (C .waiting a c d i j l) } }
+      let new = T .sent g p f (slotOf σ g p f 0) (m .0) (m .1) (k .0) (omega arith) in
+      let less = F .waiting g p f (m .0) (m .1) (k .0) in
+      let entry = put3 (_≤ b) σ Entry g p f _ new (T .entry) in
+      let first = put3 (_< 8) σ First g p f (slotOf σ g p f 1) (omega arith) (F .first) in
+      let waiting = put3 (_≤ 8) σ Waiting g p f (σ (Waiting g p f) - 1) (omega arith) (F .waiting) in
+      search
 
-  pub report-formed : (h p : ℕ) → holds σ h p ≡ true → Formed (report σ h p)
+  report-formed : (h p : ℕ) → holds σ h p ≡ true → Formed (report σ h p)
   report-formed h p e =
-      let T = F .times in
-      let b = timeBound σ in
-      let k = server-small σ (layout σ (F .setup)) h p e in
-      let new = lowest-within 4 (λ g. holds σ g p) (λ g. σ (Entry h p g)) b (λ g l. T .vectors .entry h p g (k .0) (k .1) l) in
-      record {
-        setup = F .setup; readings = F .readings; channels = F .channels; running = F .running; requests = F .requests; states = F .states;
-        times = record {
-          clocks = T .clocks; vectors = T .vectors; sessions = T .sessions; commits = T .commits;
-          gossip = record {
-            stable = T .gossip .stable; shared = T .gossip .shared;
-            note = λ a c i j. of-both (_≤ b) (same (Note h p) (Note a c)) _ _ new (T .gossip .note a c i j) } } }
+      let k = server-small σ L h p e in
+      let new : lowestEntry σ h p ≤ b = lowest-within 4 _ (λ g. σ (Entry h p g)) b (λ g. T .entry h p g (k .0) (k .1)) in
+      let note = put2 (_≤ b) σ Note h p _ new (T .note) in
+      search
 
-  pub share-formed : (f to : ℕ) → f < σ Halls → Formed (share σ f to)
+  share-formed : (f to : ℕ) → f < σ Halls → Formed (share σ f to)
   share-formed f to l =
-      let T = F .times in
-      let b = timeBound σ in
-      let k : f < 4 = omega (arith, layout σ (F .setup) .halls) in
-      let new = lowest-within 4 (λ p. holds σ f p) (λ p. σ (Note f p)) b (λ p j. T .gossip .note f p k j) in
-      record {
-        setup = F .setup; readings = F .readings; channels = F .channels; running = F .running; requests = F .requests; states = F .states;
-        times = record {
-          clocks = T .clocks; vectors = T .vectors; sessions = T .sessions; commits = T .commits;
-          gossip = record {
-            stable = T .gossip .stable; note = T .gossip .note;
-            shared = λ a c i j. of-both (_≤ b) (same (Shared to f) (Shared a c)) _ _ new (T .gossip .shared a c i j) } } }
+      let k : f < 4 = omega (arith, L) in
+      let new : lowestOf σ f ≤ b = lowest-within 4 _ (λ p. σ (Note f p)) b (λ p. T .note f p k) in
+      let shared = put2 (_≤ b) σ Shared to f _ new (T .shared) in
+      search
 
-  pub learn-formed : (h p : ℕ) → holds σ h p ≡ true → Formed (learn σ h p)
+  learn-formed : (h p : ℕ) → holds σ h p ≡ true → Formed (learn σ h p)
   learn-formed h p e =
-      let T = F .times in
-      let b = timeBound σ in
-      let k = server-small σ (layout σ (F .setup)) h p e in
-      let x = T .gossip .stable h p (k .0) (k .1) in
-      let y = lowest-within 4 (λ f. ltb f (σ Halls)) (λ f. σ (Shared h f)) b (λ f l. T .gossip .shared h f (k .0) l) in
-      record {
-        setup = F .setup; readings = F .readings; channels = F .channels; running = F .running; requests = F .requests; states = F .states;
-        times = record {
-          clocks = T .clocks; vectors = T .vectors; sessions = T .sessions; commits = T .commits;
-          gossip = record {
-            note = T .gossip .note; shared = T .gossip .shared;
-            stable = λ a c i j. of-both (_≤ b) (same (Stable h p) (Stable a c)) _ _ (omega arith) (T .gossip .stable a c i j) } } }
+      let k = server-small σ L h p e in
+      let x = T .stable h p (k .0) (k .1) in
+      let y : lowestShared σ h ≤ b = lowest-within 4 _ (λ f. σ (Shared h f)) b (λ f. T .shared h f (k .0)) in
+      let stable = put2 (_≤ b) σ Stable h p (stableAfter σ h p) (omega arith) (T .stable) in
+      search
 
 pub step-formed : (σ : Store) → Formed σ → (s : Step σ) → Formed (next σ s)
 step-formed σ F (Step.ticks h p x a b c) = tick-formed σ F h p x b

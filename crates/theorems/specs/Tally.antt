@@ -1,5 +1,5 @@
 -- Sums and counts, and the number of pairs that were prepared.
-use Prim.Native.Nat.{ℕ, zero, suc, _+_, _*_, _≤_, _<_}
+use Prim.Native.Nat.{ℕ, zero, suc, _*_, _≤_, _<_}
 use mathlib.Core.Bool.{Bool, cond}
 use mathlib.Core.Path.{_≡_, refl}
 use native.Mathlib.Nat.{suc-mul}

@@ -29,9 +29,7 @@ setup-formed masks homes e =
     let σ = firstStore masks homes in
     let good = setup-good masks homes e in
     let L = layout σ good in
-    well-formed σ (record {
-      setup = good; readings = omega arith; times = omega arith; channels = omega arith; running = omega arith;
-      requests = omega arith; states = omega arith })
+    well-formed σ (search arith)
 
 pub reached-well-formed : {σ : Store} → Reached σ → wellFormed σ ≡ true
 reached-well-formed (Reached.begun masks homes e) = setup-formed masks homes e
