@@ -3,3 +3,5 @@ pub mod Tally
 pub mod Formed
 pub mod Kept
 pub mod WellFormedKept
+pub mod Stamps
+pub mod Merge
