@@ -41,7 +41,8 @@ module _ (P : ℕ → Type 0) (σ : Store) where
   put3 c i j k v x A =
       λ a b d r s t. of-both P (eqb (c i j k .kind) (c a b d .kind) && same (c i j k) (c a b d)) v _ x (A a b d r s t)
 
-times-le : (σ : Store) (b c : ℕ) → b ≤ c → Times σ b → Times σ c
+-- a higher bound is one too
+pub times-le : (σ : Store) (b c : ℕ) → b ≤ c → Times σ b → Times σ c
 times-le σ b c l T =
     search (
       le-trans,

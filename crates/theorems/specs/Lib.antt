@@ -5,3 +5,5 @@ pub mod Kept
 pub mod WellFormedKept
 pub mod Stamps
 pub mod Merge
+pub mod Bound
+pub mod Pairs

@@ -165,12 +165,14 @@ module _ (σ : Store) (k S : ℕ) where
       rw (merge-assoc (wrote σ k S t) (viewOf σ k S xs) (viewOf σ k S ys), within xs ys (λ u m. f u (List·Memᴰ·tail m)))
       (absorb t ys (f t (List·Memᴰ·head refl)))
 
+  -- views of one store merge in either order
+  pub view-comm : (xs ys : List ℕ) → merge (viewOf σ k S xs) (viewOf σ k S ys) ≡ merge (viewOf σ k S ys) (viewOf σ k S xs)
+  view-comm xs ys =
+      merge-comm (viewOf σ k S xs) (viewOf σ k S ys) (of-agree σ k (viewOf σ k S xs) (viewOf σ k S ys) (of-view xs) (of-view ys))
+
   -- Two lists with the same members give the same view, whatever their order, their grouping and their repeats.
   pub same-view : (xs ys : List ℕ) → ((t : ℕ) → List·Memᴰ t xs ↔ List·Memᴰ t ys) → viewOf σ k S xs ≡ viewOf σ k S ys
-  same-view xs ys f =
-      let a = viewOf σ k S xs in
-      let b = viewOf σ k S ys in
-      sym (within ys xs (λ t. f t .1)) ∙ (merge-comm b a (of-agree σ k b a (of-view ys) (of-view xs)) ∙ within xs ys (λ t. f t .0))
+  same-view xs ys f = sym (within ys xs (λ t. f t .1)) ∙ (view-comm ys xs ∙ within xs ys (λ t. f t .0))
 
   listing-view : (n : ℕ) (ok : ℕ → Bool) → mergeAll n (λ t. ok t && wroteBy σ k S t) (version σ k) ≡ viewOf σ k S (listing n ok)
   unfolding mergeAll viewOf listing

@@ -1,5 +1,5 @@
 -- Sums and counts, and the number of pairs that were prepared.
-use Prim.Native.Nat.{ℕ, zero, suc, _*_, _≤_, _<_}
+use Prim.Native.Nat.{ℕ, zero, suc, _+_, _*_, _≤_, _<_}
 use mathlib.Core.Bool.{Bool, cond}
 use mathlib.Core.Path.{_≡_, refl}
 use native.Mathlib.Nat.{suc-mul}
@@ -30,6 +30,27 @@ pub sum-most : (n b : ℕ) (f : ℕ → ℕ) → ((t : ℕ) → f t ≤ b) → s
 unfolding sum
 sum-most zero b f l = omega arith
 sum-most (suc n) b f l = let ih = sum-most n b f l in let x = l n in rw suc-mul (omega arith)
+
+pub sum-eq : (n : ℕ) (f g : ℕ → ℕ) → ((t : ℕ) → t < n → f t ≡ g t) → sum n f ≡ sum n g
+unfolding sum
+sum-eq zero f g e = refl
+sum-eq (suc n) f g e = rw (e n (omega arith), sum-eq n f g (λ t l. e t (omega arith)))
+
+pub sum-add : (n : ℕ) (f g : ℕ → ℕ) → sum n f + sum n g ≡ sum n (λ t. f t + g t)
+unfolding sum
+sum-add zero f g = refl
+sum-add (suc n) f g = let ih = sum-add n f g in omega arith
+
+-- what is 0 from m on adds nothing there
+pub sum-cut : (n m : ℕ) (f : ℕ → ℕ) → m ≤ n → ((t : ℕ) → m ≤ t → t < n → f t ≡ 0) → sum n f ≡ sum m f
+unfolding sum
+sum-cut zero m f l z = let q : m ≡ 0 = omega arith in rw q
+sum-cut (suc n) m f l z =
+    by-eq m (suc n)
+    (λ q _. rw q)
+    (λ q _. let ih = sum-cut n m f (omega arith) (λ t i j. z t i (omega arith)) in
+    let x = z n (omega arith) (omega arith) in
+    omega arith)
 
 -- a count is a sum of ones
 abbrev pub one : Bool → ℕ
