@@ -1,4 +1,5 @@
 -- "No timestamp passes 2^48 - 1 + 256; this is shown, so no step is turned away for it."
+use Prim.Native.Nat.{_≤_}
 use native.Mathlib.Omega.{arith}
 use Rattle.book.specs.Sizes.{readingMax, timeMax}
 use Rattle.book.specs.Cells.{Store, Reading}
