@@ -7,7 +7,7 @@ use Rattle.book.specs.WellFormed.{timeBound}
 use Rattle.book.specs.Reached.{Reached}
 use Rattle.theorems.specs.Tally.{prepared-most}
 use Rattle.theorems.specs.Formed.{All2, Times, formed}
-use Rattle.theorems.specs.Kept.{times-le}
+use Rattle.theorems.specs.KeptSteps.{times-le}
 use Rattle.theorems.specs.WellFormedKept.{reached-well-formed}
 
 -- in a reached store no reading passes 2^48 - 1 and no timestamp of any kind 2^48 - 1 + 256

@@ -1,7 +1,7 @@
 pub mod Step
 pub mod Tally
 pub mod Formed
-pub mod Kept
+pub mod KeptSteps
 pub mod WellFormedKept
 pub mod Stamps
 pub mod Merge

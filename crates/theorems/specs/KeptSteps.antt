@@ -1,8 +1,7 @@
--- Every step keeps a store well formed.
+-- Each step keeps the facts of a well formed store.
 use Prim.Native.Nat.{ℕ, suc, _-_, _≤_, _<_, _^_}
 use mathlib.Core.Bool.{Bool, true, false, cond, _&&_}
 use mathlib.Core.Path.{_≡_}
-use mathlib.Core.Logic.{⊎-elim}
 use native.Mathlib.Nat.{le-trans}
 use native.Mathlib.Omega.{arith}
 use lib.Dec.{eqb, ltb, leb}
@@ -13,16 +12,16 @@ use Rattle.book.specs.Cases.{by-test, by-eq, by-cell, and-true, unwritten, at-s
 use Rattle.book.specs.Folds.{lowest-within, largest-within}
 use Rattle.book.specs.Sets.{member, include-lt}
 use Rattle.book.specs.Servers.{holds, writer}
-use Rattle.book.specs.WellFormed.{timeBound, wellFormed}
+use Rattle.book.specs.WellFormed.{timeBound}
 use Rattle.book.specs.Answers.{numbers}
 use Rattle.book.specs.SessionSteps.{snapshot, start, read, write, ask, readAnswer, touches}
 use Rattle.book.specs.CommitSteps.{tick, proposal, prepare, decision, decide, commitment, commit}
 use Rattle.book.specs.ReplicationSteps.{preparedAt, hasPrepared, versionClock, hybridAfter, installs, sendsTo, outgoing, nextSlot, slotOf, install, deliver}
 use Rattle.book.specs.GossipSteps.{lowestEntry, report, lowestOf, share, lowestShared, stableAfter, learn}
 use Rattle.book.specs.Steps.{after}
-use Rattle.theorems.specs.Step.{Step, next, step-or-same}
+use Rattle.theorems.specs.Step.{Step, next}
 use Rattle.theorems.specs.Tally.{prepared-le, prepared-lt}
-use Rattle.theorems.specs.Formed.{All1, All2, All3, Times, Formed, formed, well-formed, Layout, layout, server-in, server-small, writer-small}
+use Rattle.theorems.specs.Formed.{All1, All2, All3, Times, Formed, Layout, layout, server-in, server-small, writer-small}
 
 -- what holds of both holds of the one that is chosen
 of-both : (P : ℕ → Type 0) (b : Bool) (v w : ℕ) → P v → P w → P (cond b v w)
@@ -287,11 +286,3 @@ step-formed σ F (Step.delivers p f g a b c d) = deliver-formed σ F p f g a b
 step-formed σ F (Step.reports h p a) = report-formed σ F h p a
 step-formed σ F (Step.shares f to a b) = share-formed σ F f to a
 step-formed σ F (Step.learns h p a) = learn-formed σ F h p a
-
--- "every step keeps it", whatever the four numbers, taken or turned away
-pub well-formed-kept : (σ : Store) (code a b c : ℕ) → wellFormed σ ≡ true → wellFormed (after σ code a b c) ≡ true
-well-formed-kept σ code a b c w =
-    ⊎-elim
-    (λ (s, q). rw q (well-formed (next σ s) (step-formed σ (formed σ w) s)))
-    (λ q. rw q w)
-    (step-or-same σ code a b c)
