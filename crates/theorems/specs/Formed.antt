@@ -1,4 +1,4 @@
--- What a well formed store has, fact by fact: the yes or no of `wellFormed` as plain facts, in groups.
+-- What a well formed store has: the yes or no of `wellFormed` as plain facts.
 use Prim.Native.Nat.{ℕ, zero, suc, _≤_, _<_, _^_}
 use mathlib.Core.Bool.{Bool, true, false, cond, _&&_}
 use mathlib.Core.Path.{_≡_, refl}
@@ -63,55 +63,58 @@ and-l a b e = and-true a b e .0
 and-r : (a b : Bool) → (a && b) ≡ true → b ≡ true
 and-r a b e = and-true a b e .1
 
+-- from a test that joins tests to a part of it, and to what that says
+ruleset parts = (and-l, and-r, leb-true, ltb-true)
+
 -- the facts of a store that passes
 pub formed : (σ : Store) → wellFormed σ ≡ true → Formed σ
 unfolding wellFormed
 formed σ w =
     let b = timeBound σ in
-    let servers : all 4 (λ h. all 4 (λ p. serverOk σ b h p)) ≡ true = search (and-l, and-r) in
-    let sessions : all 16 (λ s. sessionOk σ b s) ≡ true = search (and-l, and-r) in
-    let transactions : all 64 (λ t. transactionOk σ b t) ≡ true = search (and-l, and-r) in
-    let notes : all 4 (λ to. all 4 (λ f. sharedOk σ b to f)) ≡ true = search (and-l, and-r) in
+    let servers : all 4 (λ h. all 4 (λ p. serverOk σ b h p)) ≡ true = search parts in
+    let sessions : all 16 (λ s. sessionOk σ b s) ≡ true = search parts in
+    let transactions : all 64 (λ t. transactionOk σ b t) ≡ true = search parts in
+    let notes : all 4 (λ to. all 4 (λ f. sharedOk σ b to f)) ≡ true = search parts in
     let server : (h p : ℕ) → h < 4 → p < 4 → serverOk σ b h p ≡ true = λ h p i j. all-at 4 _ (all-at 4 _ servers h i) p j in
     let halls : (h p : ℕ) → h < 4 → p < 4 → all 4 (λ g. leb (σ (Entry h p g)) b && channelOk σ b h p g) ≡ true =
-    λ h p i j. let c = server h p i j in search (and-l, and-r) in
+    λ h p i j. let c = server h p i j in search parts in
     let hall : (h p g : ℕ) → h < 4 → p < 4 → g < 4 → (leb (σ (Entry h p g)) b && channelOk σ b h p g) ≡ true =
     λ h p g i j l. all-at 4 _ (halls h p i j) g l in
     let session : (s : ℕ) → s < 16 → sessionOk σ b s ≡ true = all-at 16 _ sessions in
     let transaction : (t : ℕ) → t < 64 → transactionOk σ b t ≡ true = all-at 64 _ transactions in
-    let pairs : (t : ℕ) → t < 64 → all 4 (λ p. pairOk σ b t p) ≡ true = λ t i. let c = transaction t i in search (and-l, and-r) in
+    let pairs : (t : ℕ) → t < 64 → all 4 (λ p. pairOk σ b t p) ≡ true = λ t i. let c = transaction t i in search parts in
     let pair : (t p : ℕ) → t < 64 → p < 4 → pairOk σ b t p ≡ true = λ t p i j. all-at 4 _ (pairs t i) p j in
     record {
-      setup = search (and-l, and-r);
+      setup = search parts;
       times = record {
-        hybrid = λ h p i j. let c = server h p i j in search (and-l, and-r, leb-true);
-        stable = λ h p i j. let c = server h p i j in search (and-l, and-r, leb-true);
-        entry = λ h p g i j l. let c = hall h p g i j l in search (and-l, and-r, leb-true);
-        snapshot = λ s i. let c = session s i in search (and-l, and-r, leb-true);
-        last = λ s i. let c = session s i in search (and-l, and-r, leb-true);
-        cached = λ s k i j. let c = session s i in leb-true _ _ (all-at 32 (λ k. leb (σ (CacheTime s k)) b) (search (and-l, and-r)) k j);
-        commit = λ t i. let c = transaction t i in search (and-l, and-r, leb-true);
-        proposed = λ t p i j. let c = pair t p i j in search (and-l, and-r, leb-true);
+        hybrid = λ h p i j. let c = server h p i j in search parts;
+        stable = λ h p i j. let c = server h p i j in search parts;
+        entry = λ h p g i j l. let c = hall h p g i j l in search parts;
+        snapshot = λ s i. let c = session s i in search parts;
+        last = λ s i. let c = session s i in search parts;
+        cached = λ s k i j. let c = session s i in leb-true _ _ (all-at 32 (λ k. leb (σ (CacheTime s k)) b) (search parts) k j);
+        commit = λ t i. let c = transaction t i in search parts;
+        proposed = λ t p i j. let c = pair t p i j in search parts;
         sent = λ g p f n i j l m.
-            let c = hall g p f i j l in leb-true _ _ (all-at 8 (λ n. leb (σ (ClockSent g p f n)) b) (search (and-l, and-r)) n m);
-        note = λ h p i j. let c = server h p i j in search (and-l, and-r, leb-true);
+            let c = hall g p f i j l in leb-true _ _ (all-at 8 (λ n. leb (σ (ClockSent g p f n)) b) (search parts) n m);
+        note = λ h p i j. let c = server h p i j in search parts;
         shared = λ to f i j. leb-true _ _ (all-at 4 _ (all-at 4 _ notes to i) f j);
       };
-      reading = λ h p i j. let c = server h p i j in search (and-l, and-r, leb-true);
-      first = λ g p f i j l. let c = hall g p f i j l in search (and-l, and-r, ltb-true);
-      waiting = λ g p f i j l. let c = hall g p f i j l in search (and-l, and-r, leb-true);
-      status = λ s i. let c = session s i in search (and-l, and-r, leb-true);
-      writes = λ s i. let c = session s i in search (and-l, and-r, ltb-true);
-      reads = λ s i. let c = session s i in search (and-l, and-r, ltb-true);
-      places = search (and-l, and-r, leb-true);
-      session = λ t i. let c = transaction t i in search (and-l, and-r, ltb-true);
-      hall = λ t i. let c = transaction t i in search (and-l, and-r, ltb-true);
-      keys = λ t i. let c = transaction t i in search (and-l, and-r, ltb-true);
-      state = λ t p i j. let c = pair t p i j in search (and-l, and-r, leb-true);
+      reading = λ h p i j. let c = server h p i j in search parts;
+      first = λ g p f i j l. let c = hall g p f i j l in search parts;
+      waiting = λ g p f i j l. let c = hall g p f i j l in search parts;
+      status = λ s i. let c = session s i in search parts;
+      writes = λ s i. let c = session s i in search parts;
+      reads = λ s i. let c = session s i in search parts;
+      places = search parts;
+      session = λ t i. let c = transaction t i in search parts;
+      hall = λ t i. let c = transaction t i in search parts;
+      keys = λ t i. let c = transaction t i in search parts;
+      state = λ t p i j. let c = pair t p i j in search parts;
       prepared = λ t p i j e.
           let c = pair t p i j in
           leb-true _ _
-          (implies-true (eqb (σ (State t p)) 2) (leb 1 (σ (Proposed t p))) (search (and-l, and-r)) (eq-eqb (σ (State t p)) 2 e));
+          (implies-true (eqb (σ (State t p)) 2) (leb 1 (σ (Proposed t p))) (search parts) (eq-eqb (σ (State t p)) 2 e));
     }
 
 implies-i : (a b : Bool) → (a ≡ true → b ≡ true) → implies a b ≡ true
@@ -167,21 +170,21 @@ Layout σ = record {
 
 pub layout : (σ : Store) → goodSetup σ ≡ true → Layout σ
 layout σ e =
-    let sessions : σ Sessions ≤ 16 = search (and-l, and-r, leb-true) in
-    let held : eqb (σ Partitions) (partitionsHeld σ) ≡ true = search (and-l, and-r) in
-    let homes : all 16 (λ s. implies (ltb s (σ Sessions)) (holds σ (σ (HomeHall s)) (σ (HomePartition s)))) ≡ true = search (and-l, and-r) in
+    let sessions : σ Sessions ≤ 16 = search parts in
+    let held : eqb (σ Partitions) (partitionsHeld σ) ≡ true = search parts in
+    let homes : all 16 (λ s. implies (ltb s (σ Sessions)) (holds σ (σ (HomeHall s)) (σ (HomePartition s)))) ≡ true = search parts in
     record {
-      hall = search (and-l, and-r, leb-true);
-      halls = search (and-l, and-r, leb-true);
+      hall = search parts;
+      halls = search parts;
       partitions = rw (eqb-true (σ Partitions) (partitionsHeld σ) held) (largest-within 4 _ (λ p. suc p) 4 (λ p l. l));
-      session = search (and-l, and-r, leb-true);
+      session = search parts;
       sessions = sessions;
       homes = λ s l. implies-true (ltb s (σ Sessions)) _ (all-at 16 _ homes s (omega arith)) (lt-ltb s (σ Sessions) l);
     }
 
 -- a server's numbers are below how many there are, and small
 pub server-in : (σ : Store) (h p : ℕ) → holds σ h p ≡ true → (h < σ Halls) × (p < σ Partitions)
-server-in σ h p e = search (and-l, and-r, ltb-true)
+server-in σ h p e = search parts
 
 pub server-small : (σ : Store) → Layout σ → (h p : ℕ) → holds σ h p ≡ true → (h < 4) × (p < 4)
 server-small σ L h p e = let w = server-in σ h p e in omega arith
