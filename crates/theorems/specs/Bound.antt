@@ -15,4 +15,4 @@ pub bound : {σ : Store} → Reached σ → record { readings : All2 (_≤ readi
 bound {σ} r =
     let F = formed σ (reached-well-formed r) in
     let m = prepared-most σ in
-    record { readings = F .reading; times = times-le σ (timeBound σ) timeMax (omega arith) (F .times) }
+    record { readings = F .reading; times = times-le σ (timeBound σ) _ (omega arith) (F .times) }

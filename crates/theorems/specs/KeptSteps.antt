@@ -58,7 +58,7 @@ times-le σ b c l T =
       T .shared,
     )
 
--- a place that is free has no state, and a state's limit does not fall as places are taken
+-- a state's limit does not fall as places are taken, and where it is not 0 it is 4
 limit-le : (t a b : ℕ) → a ≤ b → cond (ltb t a) 4 0 ≤ cond (ltb t b) 4 0
 limit-le t a b l =
     by-test (ltb t a)
@@ -69,6 +69,7 @@ limit-some : (b : Bool) → 0 < cond b 4 0 → 4 ≤ cond b 4 0
 limit-some true l = omega arith
 limit-some false l = absurd (omega arith)
 
+-- Step by step: the facts of what it writes. `search` takes the others from F, since the cells that they speak of do not change.
 module _ (σ : Store) (F : Formed σ) where
   abbrev b : ℕ
   b = timeBound σ
@@ -127,6 +128,7 @@ module _ (σ : Store) (F : Formed σ) where
       let more = prepared-le σ (ask σ s) up in
       let times = times-le σ b (timeBound (ask σ s)) (omega arith) T in
       let status = put1 (_≤ 2) σ Status s 2 (omega arith) (F .status) in
+      let places : ask σ s Transactions ≤ 64 = m in
       let session = put1 (_< σ Sessions) σ By t s l (F .session) in
       let hall = put1 (_< σ Halls) σ From t _ home (F .hall) in
       let keys = put1 (_< 2 ^ keys) σ KeySet t _ (F .writes s (omega (arith, L))) (F .keys) in

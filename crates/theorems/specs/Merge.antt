@@ -85,7 +85,7 @@ viewOf σ k S (t ∷ ts) = merge (wrote σ k S t) (viewOf σ k S ts)
 
 -- "The view of two sets joined is the merge of their two views"
 pub view-join : (σ : Store) (k S : ℕ) (xs ys : List ℕ) → viewOf σ k S (xs ++ ys) ≡ merge (viewOf σ k S xs) (viewOf σ k S ys)
-unfolding viewOf _++_
+unfolding viewOf
 view-join σ k S [] ys = refl
 view-join σ k S (t ∷ xs) ys = rw (view-join σ k S xs ys) (sym (merge-assoc (wrote σ k S t) (viewOf σ k S xs) (viewOf σ k S ys)))
 
