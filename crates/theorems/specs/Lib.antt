@@ -1,4 +1,12 @@
 pub mod Step
+pub mod Formed
+pub mod Tally
+pub mod KeptSteps
+pub mod WellFormedKept
+pub mod Bound
+pub mod Pairs
+pub mod Stamps
+pub mod Merge
 pub mod Inv
 pub mod Gossip
 pub mod Clocks
@@ -11,7 +19,8 @@ pub mod Reach
 pub mod Writer
 pub mod SnapshotRead
 pub mod LaterView
-pub mod Calls
-pub mod Round
 pub mod ReadAnswer
 pub mod OwnWrites
+pub mod Calls
+pub mod Round
+pub mod Printout
