@@ -10,31 +10,22 @@ use Rattle.book.specs.Servers.{firstFrom}
 use Rattle.book.specs.Views.{mergeAll}
 use Rattle.book.specs.Setup.{firstStore, setupRefusal, setupAnswer}
 use Rattle.book.specs.Steps.{ruleOf, refusal, after, answer}
-
--- a step of a script: its code and three numbers
-pub record Four : Type 0 where
-  pub code : ℕ
-  pub a : ℕ
-  pub b : ℕ
-  pub c : ℕ
-
-abbrev four : ℕ → ℕ → ℕ → ℕ → Four
-four n a b c = record { code = n; a = a; b = b; c = c }
+use Rattle.theorems.specs.Calls.{Call, call, afterOf}
 
 -- the numbers of each step's line
-unfoldable pub lines : Store → List Four → List Numbers
+unfoldable pub lines : Store → List Call → List Numbers
 lines σ [] = []
 lines σ (x ∷ xs) =
-    numbers (answer σ (x .code) (x .a) (x .b) (x .c)) ∷ lines (after σ (x .code) (x .a) (x .b) (x .c)) xs
+    numbers (answer σ (x .code) (x .a) (x .b) (x .c)) ∷ lines (afterOf σ x) xs
 
-unfoldable pub script : List Four
+unfoldable pub script : List Call
 script =
-    four 1 0 0 100 ∷ four 1 0 1 90 ∷ four 1 1 1 95 ∷ four 2 0 0 0 ∷ four 4 0 0 205 ∷ four 4 0 1 44
-    ∷ four 5 0 0 0 ∷ four 6 1 0 0 ∷ four 6 1 1 0 ∷ four 7 1 0 0 ∷ four 2 0 0 0 ∷ four 3 0 1 1
-    ∷ four 2 1 0 0 ∷ four 3 1 1 0 ∷ four 8 1 1 0 ∷ four 9 0 1 0 ∷ four 8 1 0 0 ∷ four 9 0 0 0
-    ∷ four 1 1 1 120 ∷ four 9 1 1 0 ∷ four 10 1 0 1 ∷ four 10 1 1 0 ∷ four 11 0 0 0 ∷ four 11 0 1 0
-    ∷ four 11 1 1 0 ∷ four 12 0 1 0 ∷ four 12 1 1 0 ∷ four 13 1 1 0 ∷ four 5 1 0 0 ∷ four 2 1 0 0
-    ∷ four 3 1 1 0 ∷ four 3 1 0 1 ∷ four 3 1 0 0
+    call 1 0 0 100 ∷ call 1 0 1 90 ∷ call 1 1 1 95 ∷ call 2 0 0 0 ∷ call 4 0 0 205 ∷ call 4 0 1 44
+    ∷ call 5 0 0 0 ∷ call 6 1 0 0 ∷ call 6 1 1 0 ∷ call 7 1 0 0 ∷ call 2 0 0 0 ∷ call 3 0 1 1
+    ∷ call 2 1 0 0 ∷ call 3 1 1 0 ∷ call 8 1 1 0 ∷ call 9 0 1 0 ∷ call 8 1 0 0 ∷ call 9 0 0 0
+    ∷ call 1 1 1 120 ∷ call 9 1 1 0 ∷ call 10 1 0 1 ∷ call 10 1 1 0 ∷ call 11 0 0 0 ∷ call 11 0 1 0
+    ∷ call 11 1 1 0 ∷ call 12 0 1 0 ∷ call 12 1 1 0 ∷ call 13 1 1 0 ∷ call 5 1 0 0 ∷ call 2 1 0 0
+    ∷ call 3 1 1 0 ∷ call 3 1 0 1 ∷ call 3 1 0 0
     ∷ []
 
 unfoldable pub page : List Numbers
