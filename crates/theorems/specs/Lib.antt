@@ -23,4 +23,5 @@ pub mod ReadAnswer
 pub mod OwnWrites
 pub mod Calls
 pub mod Round
+pub mod RoundLists
 pub mod Printout
