@@ -1,0 +1,3 @@
+pub mod Layout
+pub mod Checked
+pub mod Words
