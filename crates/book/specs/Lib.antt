@@ -15,3 +15,4 @@ pub mod Refusals
 pub mod Steps
 pub mod WellFormed
 pub mod Reached
+pub mod Board
