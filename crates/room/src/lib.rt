@@ -1,5 +1,4 @@
 ghost use mathlib.Core.Path.{_≡_};
-ghost use mathlib.Core.Bool.{cond};
 ghost use Prim.Native.Nat.{_<_};
 ghost use lib.ListN.{length};
 ghost use Rattle.book.specs.Cells.{cell, _⟨_≔_⟩};
@@ -115,41 +114,51 @@ const BASE: [usize; 34] = [
     7288,
 ];
 
-fn when(test: bool, n: usize, rest: usize) -> usize
-    ensures { λ r. ⌜ r ≡ cond test n rest ⌝ }
-{
-    if test { n } else { rest }
-}
-
 // The words from one cell to the next by its first, second and third index.
 fn step_i(kind: usize) -> usize
     ensures { λ r. ⌜ r ≡ stepI kind ⌝ }
 {
-    when(
-        kind < 5,
-        1,
-        when(
-            kind < 10,
-            284,
-            when(kind < 21, 135, when(kind < 28, 44, when(kind < 32, 288, 4))),
-        ),
-    )
+    if kind < 5 {
+        1
+    } else if kind < 10 {
+        284
+    } else if kind < 21 {
+        135
+    } else if kind < 28 {
+        44
+    } else if kind < 32 {
+        288
+    } else {
+        4
+    }
 }
 
 fn step_j(kind: usize) -> usize
     ensures { λ r. ⌜ r ≡ stepJ kind ⌝ }
 {
-    when(
-        kind < 5,
-        1,
-        when(kind < 10, 71, when(kind < 28, 1, when(kind < 32, 72, 1))),
-    )
+    if kind < 5 {
+        1
+    } else if kind < 10 {
+        71
+    } else if kind < 28 {
+        1
+    } else if kind < 32 {
+        72
+    } else {
+        1
+    }
 }
 
 fn step_k(kind: usize) -> usize
     ensures { λ r. ⌜ r ≡ stepK kind ⌝ }
 {
-    when(kind < 28, 1, when(kind < 32, 18, 1))
+    if kind < 28 {
+        1
+    } else if kind < 32 {
+        18
+    } else {
+        1
+    }
 }
 
 fn place(kind: usize, i: usize, j: usize, k: usize, l: usize) -> usize
