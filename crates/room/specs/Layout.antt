@@ -2,10 +2,10 @@
 use Prim.Native.Nat.{ℕ, zero, suc, _+_, _*_, _-_, _/_, _%_, _<_}
 use mathlib.Core.Bool.{Bool, cond, _&&_}
 use mathlib.Core.List.{List, [], _∷_}
-use lib.Dec.{eqb, ltb}
+use lib.Dec.{ltb}
 use lib.ListN.{getD}
 use Rattle.book.specs.Sizes.{hallsMax, partitionsMax, sessionsMax, keys, placesMax, slots}
-use Rattle.book.specs.Cells.{Cell, cell, same, Store}
+use Rattle.book.specs.Cells.{Cell, cell, Store}
 
 -- the words of a room
 abbrev pub size : ℕ
