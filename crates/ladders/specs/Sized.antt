@@ -1,15 +1,15 @@
 -- What the ladders ask of a store: its counts are in range, so that what is there has a cell.
-use Prim.Native.Nat.{ℕ, _≤_, _<_}
-use mathlib.Core.Bool.{Bool, true, _&&_}
+use Prim.Native.Nat.{ℕ, _-_, _≤_, _<_}
+use mathlib.Core.Bool.{true, _&&_}
 use mathlib.Core.Path.{_≡_}
 use native.Mathlib.Omega.{arith}
-use lib.Dec.{ltb}
-use borrow.Author.Tests.{ltb-true}
+use lib.Dec.{ltb, leb}
+use borrow.Author.Tests.{ltb-true, leb-true}
 use Rattle.book.specs.Sizes.{hallsMax, partitionsMax, sessionsMax, placesMax}
 use Rattle.book.specs.Cells.{Store, Halls, Partitions, Sessions, Transactions}
 use Rattle.book.specs.Cases.{and-true}
 use Rattle.book.specs.Servers.{holds}
-use Rattle.book.specs.Refusals.{sessionThere}
+use Rattle.book.specs.Refusals.{sessionThere, transactionThere}
 
 pub record Sized (σ : Store) : Type 0 where
   pub halls : σ Halls ≤ hallsMax
@@ -30,8 +30,17 @@ server-in σ S h p e =
     (omega arith, omega arith)
 
 -- so does a session
-pub session-in : (σ : Store) → Sized σ → (s : ℕ) (b : Bool) → (sessionThere σ s && b) ≡ true → s < sessionsMax
-session-in σ S s b e =
-    let x = ltb-true s (σ Sessions) (and-true (sessionThere σ s) b e .0) in
+pub session-in : (σ : Store) → Sized σ → (s : ℕ) → sessionThere σ s ≡ true → s < sessionsMax
+session-in σ S s e =
+    let x = ltb-true s (σ Sessions) e in
     let u = S .sessions in
     omega arith
+
+-- and a transaction number that is there has a place
+pub transaction-in : (σ : Store) → Sized σ → (n : ℕ) → transactionThere σ n ≡ true → (1 ≤ n) × (n - 1 < placesMax)
+transaction-in σ S n e =
+    let a = and-true (leb 1 n) _ e in
+    let x = leb-true 1 n (a .0) in
+    let y = leb-true n (σ Transactions) (a .1) in
+    let u = S .transactions in
+    (omega arith, omega arith)
