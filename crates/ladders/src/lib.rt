@@ -11,6 +11,7 @@ ghost use Rattle.book.specs.Folds.{any};
 ghost use Rattle.book.specs.Servers.{holds, partitionOf};
 ghost use Rattle.book.specs.ReplicationSteps.{sendsTo};
 ghost use Rattle.room.specs.Layout.{size, store};
+ghost use Rattle.book.specs.Steps.{refusal as refusalOf};
 ghost use Rattle.ladders.specs.Sized.{Sized};
 use room::COMMIT_TIME;
 use room::HALLS;
@@ -256,4 +257,27 @@ fn channel_full(room: &[u64], h: usize, p: usize) -> bool
             either(full_to(room, h, p, 1), either(full_to(room, h, p, 0), false)),
         ),
     )
+}
+
+// the number given to a step, 0 where it is taken
+pub fn refusal(room: &[u64], code: u64, a: u64, b: u64, c: u64) -> u64
+    requires { ⌜ (length (now room) ≡ size) × Sized (store (now room)) ⌝ }
+    ensures { λ r. ⌜ r ≡ refusalOf (store (now (room .entry))) code a b c ⌝ }
+{
+    match code {
+        1 => tick(room, a, b, c),
+        2 => start(room, a, b, c),
+        3 => read(room, a, b, c),
+        4 => write(room, a, b, c),
+        5 => end(room, a, b, c),
+        6 => prepare(room, a, b, c),
+        7 => decide(room, a, b, c),
+        8 => commit(room, a, b, c),
+        9 => install(room, a, b, c),
+        10 => deliver(room, a, b, c),
+        11 => server(room, a, b, c),
+        12 => share(room, a, b, c),
+        13 => server(room, a, b, c),
+        _ => 3,
+    }
 }
