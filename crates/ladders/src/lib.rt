@@ -145,7 +145,11 @@ pub fn prepare(room: &[u64], n: u64, p: u64, z: u64) -> u64
     if !pair_there(room, n, p, z) {
         return 3;
     }
-    when(room::get(room, STATE, (n - 1) as usize, p as usize, 0, 0) != 1, 9, 0)
+    when(
+        room::get(room, STATE, (n - 1) as usize, p as usize, 0, 0) != 1,
+        9,
+        0,
+    )
 }
 
 pub fn commit(room: &[u64], n: u64, p: u64, z: u64) -> u64
@@ -186,10 +190,17 @@ pub fn deliver(room: &[u64], p: u64, f: u64, g: u64) -> u64
     requires { ⌜ (length (now room) ≡ size) × Sized (store (now room)) ⌝ }
     ensures { λ r. ⌜ r ≡ deliverRefusal (store (now (room .entry))) p f g ⌝ }
 {
-    if !both(server_there(room, f, p), both(server_there(room, g, p), f != g)) {
+    if !both(
+        server_there(room, f, p),
+        both(server_there(room, g, p), f != g),
+    ) {
         return 3;
     }
-    when(room::get(room, WAITING, g as usize, p as usize, f as usize, 0) == 0, 11, 0)
+    when(
+        room::get(room, WAITING, g as usize, p as usize, f as usize, 0) == 0,
+        11,
+        0,
+    )
 }
 
 pub fn server(room: &[u64], h: u64, p: u64, z: u64) -> u64
@@ -213,7 +224,10 @@ fn key_there(room: &[u64], s: u64, k: u64, h: u64) -> bool
     ensures { λ r. ⌜ r ≡ (sessionThere (store (now (room .entry))) s && (ltb k keys && holds (store (now (room .entry))) h (partitionOf (store (now (room .entry))) k))) ⌝ }
 {
     let p = k % room::get(room, PARTITIONS, 0, 0, 0, 0);
-    both(session_there(room, s), both(k < 32, server_there(room, h, p)))
+    both(
+        session_there(room, s),
+        both(k < 32, server_there(room, h, p)),
+    )
 }
 
 // a partition's state in which a decide may find it
@@ -231,7 +245,10 @@ fn all_prepared(room: &[u64], t: usize) -> bool
 {
     both(
         ready(room, t, 3),
-        both(ready(room, t, 2), both(ready(room, t, 1), both(ready(room, t, 0), true))),
+        both(
+            ready(room, t, 2),
+            both(ready(room, t, 1), both(ready(room, t, 0), true)),
+        ),
     )
 }
 
@@ -254,7 +271,10 @@ fn channel_full(room: &[u64], h: usize, p: usize) -> bool
         full_to(room, h, p, 3),
         either(
             full_to(room, h, p, 2),
-            either(full_to(room, h, p, 1), either(full_to(room, h, p, 0), false)),
+            either(
+                full_to(room, h, p, 1),
+                either(full_to(room, h, p, 0), false),
+            ),
         ),
     )
 }

@@ -1,12 +1,11 @@
 use Rattle.book.specs.Folds.{all}
-
 use borrow.Author.Needs.{needs}
 use Rattle.ladders.proofs.all_prepared.Statement.{statement}
 use Rattle.ladders.proofs.all_prepared.Tie as tie
 
 pub all-prepared-spec : {M : Type 1} → statement M
 unfolding all
-all-prepared-spec = tie.close (tie.spec 
+all-prepared-spec = tie.close (tie.spec
     (λ c κs. search needs)
     (λ c κs. search needs)
     (λ c κs. search needs)

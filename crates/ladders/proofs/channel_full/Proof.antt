@@ -1,12 +1,11 @@
 use Rattle.book.specs.Folds.{any}
-
 use borrow.Author.Needs.{needs}
 use Rattle.ladders.proofs.channel_full.Statement.{statement}
 use Rattle.ladders.proofs.channel_full.Tie as tie
 
 pub channel-full-spec : {M : Type 1} → statement M
 unfolding any
-channel-full-spec = tie.close (tie.spec 
+channel-full-spec = tie.close (tie.spec
     (λ c κs. search needs)
     (λ c κs. search needs)
     (λ c κs. search needs)

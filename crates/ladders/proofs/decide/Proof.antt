@@ -8,7 +8,7 @@ use Rattle.ladders.proofs.decide.Statement.{statement}
 use Rattle.ladders.proofs.decide.Tie as tie
 
 pub decide-spec : {M : Type 1} → statement M
-decide-spec = tie.close (tie.spec 
+decide-spec = tie.close (tie.spec
     (λ c κs. search needs)
     (λ c κs. search needs)
     (λ c κs. search needs)

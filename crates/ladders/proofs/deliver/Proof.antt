@@ -8,7 +8,7 @@ use Rattle.ladders.proofs.deliver.Statement.{statement}
 use Rattle.ladders.proofs.deliver.Tie as tie
 
 pub deliver-spec : {M : Type 1} → statement M
-deliver-spec = tie.close (tie.spec 
+deliver-spec = tie.close (tie.spec
     (λ c κs. search needs)
     (λ c κs. search needs)
     (λ c κs. search needs)

@@ -8,7 +8,7 @@ use Rattle.ladders.proofs.install.Statement.{statement}
 use Rattle.ladders.proofs.install.Tie as tie
 
 pub install-spec : {M : Type 1} → statement M
-install-spec = tie.close (tie.spec 
+install-spec = tie.close (tie.spec
     (λ c κs. search needs)
     (λ c κs. search needs)
     (λ c. rw (← (c .before .before .server-there .ensures), sym (c .before .both .ensures) ∙ not-true _ (c .if1 .taken)))

@@ -12,7 +12,7 @@ use Rattle.ladders.proofs.prepare.Statement.{statement}
 use Rattle.ladders.proofs.prepare.Tie as tie
 
 pub prepare-spec : {M : Type 1} → statement M
-prepare-spec = tie.close (tie.spec 
+prepare-spec = tie.close (tie.spec
     (λ c κs. search needs)
     (λ c. rw (sym (c .before .pair-there .ensures) ∙ not-true _ (c .if1 .taken)))
     (λ c. let s = c .before .before .before in let e = transaction-in (store (s .args .room .now)) (s .pre .1) (s .args .n) (and-true (transactionThere (store (s .args .room .now)) (s .args .n)) _ (sym (c .before .pair-there .ensures) ∙ not-false _ (c .if1 .left)) .0) in search needs)

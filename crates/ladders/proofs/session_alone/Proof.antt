@@ -3,7 +3,7 @@ use Rattle.ladders.proofs.session_alone.Statement.{statement}
 use Rattle.ladders.proofs.session_alone.Tie as tie
 
 pub session-alone-spec : {M : Type 1} → statement M
-session-alone-spec = tie.close (tie.spec 
+session-alone-spec = tie.close (tie.spec
     (λ c κs. search needs)
     (λ c κs. search needs)
     (λ c κs. search needs)

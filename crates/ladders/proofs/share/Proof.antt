@@ -1,10 +1,9 @@
-
 use borrow.Author.Needs.{needs}
 use Rattle.ladders.proofs.share.Statement.{statement}
 use Rattle.ladders.proofs.share.Tie as tie
 
 pub share-spec : {M : Type 1} → statement M
-share-spec = tie.close (tie.spec 
+share-spec = tie.close (tie.spec
     (λ c κs. search needs)
     (λ c κs. search needs)
     (λ c κs. search needs)

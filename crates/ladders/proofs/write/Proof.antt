@@ -8,7 +8,7 @@ use Rattle.ladders.proofs.write.Statement.{statement}
 use Rattle.ladders.proofs.write.Tie as tie
 
 pub write-spec : {M : Type 1} → statement M
-write-spec = tie.close (tie.spec 
+write-spec = tie.close (tie.spec
     (λ c κs. search needs)
     (λ c κs. search needs)
     (λ c. rw (← (c .before .before .session-there .ensures), sym (c .before .both .ensures) ∙ not-true _ (c .if1 .taken)))
