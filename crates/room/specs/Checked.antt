@@ -1,0 +1,25 @@
+-- The tables, tested by computing: every cell of the room lies in it and is found again from its word, and every word is a cell's.
+use Prim.Native.Nat.{ℕ}
+use mathlib.Core.Bool.{Bool, true, _&&_}
+use mathlib.Core.Path.{_≡_, refl}
+use lib.Dec.{eqb, ltb}
+use Rattle.book.specs.Cells.{Cell, cell, same}
+use Rattle.book.specs.Folds.{all}
+use Rattle.room.specs.Layout.{size, kinds, countI, countJ, countK, countL, at, valid, lastKind, cellAt}
+
+abbrev pub found : Cell → Bool
+found c = let d = cellAt (at c) in ltb (at c) size && (eqb (d .kind) (c .kind) && same d c)
+
+pub each-cell :
+    all kinds
+    (λ n. all (countI n) (λ i. all (countJ n) (λ j. all (countK n) (λ k. all (countL n) (λ l. found (cell n i j k l))))))
+    ≡ true
+unfolding all cellAt lastKind
+each-cell = refl
+
+abbrev pub named : ℕ → Bool
+named w = let c = cellAt w in eqb (at c) w && valid c
+
+pub each-word : all size named ≡ true
+unfolding all cellAt lastKind valid
+each-word = refl
