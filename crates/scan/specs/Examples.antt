@@ -1,9 +1,12 @@
 -- The page's cases and the readings' examples, computed. A text is written as its bytes: `0` is 48, a space 32, a line feed 10, a comma 44.
-use Prim.Native.Nat.{ℕ, _+_}
+use Prim.Native.Nat.{ℕ}
 use mathlib.Core.List.{List, [], _∷_, _++_}
 use mathlib.Core.Path.{_≡_, refl}
 use Rattle.scan.specs.declared.Number.{Number}
 use Rattle.scan.specs.declared.Number.the-variants.{Value, Bad}
+use Rattle.scan.specs.declared.Four.the-variants.{Step, Bad as BadFour}
+use Rattle.scan.specs.declared.Many.the-variants.{Next, Bad as BadMany}
+use Rattle.scan.specs.Groups.{fourAt, numbers, manyAt}
 use Rattle.scan.specs.Number.{numberAt, countAt, digit, closing, grows, more, start}
 
 abbrev value : ℕ → ℕ → Number
@@ -63,3 +66,19 @@ counts = (refl, refl, refl, refl, refl)
 once : numberAt (55 ∷ 32 ∷ 10 ∷ []) 2 ≡ Bad 2
 unfolding digit start
 once = refl
+
+-- a number is read when its closing byte is: the step `9 0 1 0\n`, the same without the line feed, and `9 0 1,0\n`
+steps :
+    (fourAt (57 ∷ 32 ∷ 48 ∷ 32 ∷ 49 ∷ 32 ∷ 48 ∷ 10 ∷ []) 0 ≡ Step 9 0 1 0 (record { at = 8 }))
+    × (fourAt (57 ∷ 32 ∷ 48 ∷ 32 ∷ 49 ∷ 32 ∷ 48 ∷ []) 0 ≡ BadFour 7)
+    × (fourAt (57 ∷ 32 ∷ 48 ∷ 32 ∷ 49 ∷ 44 ∷ 48 ∷ 10 ∷ []) 0 ≡ BadFour 5)
+unfolding digit closing grows more start fourAt
+steps = (refl, refl, refl)
+
+-- the masks of `2 3 2\n`, and the homes of `1 0\n1 0,0\n`, bad at the comma before any is read; of `0 0 1` two are
+homes :
+    (manyAt 2 (50 ∷ 32 ∷ 51 ∷ 32 ∷ 50 ∷ 10 ∷ []) 2 ≡ numbers (3 ∷ 2 ∷ []) (Next (record { at = 6 })))
+    × (manyAt 2 (49 ∷ 32 ∷ 48 ∷ 10 ∷ 49 ∷ 32 ∷ 48 ∷ 44 ∷ 48 ∷ 10 ∷ []) 6 ≡ numbers [] (BadMany 7))
+    × (manyAt 4 (48 ∷ 32 ∷ 48 ∷ 32 ∷ 49 ∷ []) 0 ≡ numbers (0 ∷ 0 ∷ []) (BadMany 5))
+unfolding digit closing grows more start manyAt
+homes = (refl, refl, refl)

@@ -19,6 +19,14 @@ abbrev pub onNumber : {A : Type 0} → Number → (ℕ → A) → (ℕ → Curso
 onNumber (Bad k) f g = f k
 onNumber (Value v p) f g = g v p
 
+abbrev pub onFour : {A : Type 0} → Four → (ℕ → A) → (ℕ → ℕ → ℕ → ℕ → Cursor → A) → A
+onFour (BadFour k) f g = f k
+onFour (Step code x y z p) f g = g code x y z p
+
+abbrev pub onMany : {A : Type 0} → Many → (ℕ → A) → (Cursor → A) → A
+onMany (BadMany k) f g = f k
+onMany (Next p) f g = g p
+
 -- "steps (four numbers each ..)"
 unfoldable pub fourAt : List ℕ → ℕ → Four
 fourAt text at =
@@ -48,3 +56,49 @@ pub many-turn : (n i : ℕ) (text : List ℕ) (at : ℕ) → i < n → manyAt (n
     numbers (v ∷ manyAt (n - (i + 1)) text (p .at) .got) (manyAt (n - (i + 1)) text (p .at) .end))
 unfolding manyAt
 many-turn n i text at h = let e : n - i ≡ suc (n - (i + 1)) = omega arith in rw e
+
+-- what holds of each case holds
+pub by-number : {A : Type 0} (P : A → Type 0) (x : Number) {f : ℕ → A} {g : ℕ → Cursor → A}
+    → ((k : ℕ) → x ≡ Bad k → P (f k)) → ((v : ℕ) (p : Cursor) → x ≡ Value v p → P (g v p)) → P (onNumber x f g)
+by-number P (Bad k) h l = h k refl
+by-number P (Value v p) h l = l v p refl
+
+-- no place is past the end, and where no text is bad all n numbers are there
+abbrev pub FourWithin : ℕ → Four → Type 0
+FourWithin end (BadFour k) = k ≤ end
+FourWithin end (Step code x y z p) = p .at ≤ end
+
+abbrev pub ManyWithin : ℕ → ℕ → List ℕ → Many → Type 0
+ManyWithin n end xs (BadMany k) = k ≤ end
+ManyWithin n end xs (Next p) = (length xs ≡ n) × (p .at ≤ end)
+
+one-more : (n end v : ℕ) (xs : List ℕ) (x : Many) → ManyWithin n end xs x → ManyWithin (suc n) end (v ∷ xs) x
+one-more n end v xs (BadMany k) h = h
+one-more n end v xs (Next p) h = (omega arith, h .1)
+
+module _ (text : List ℕ) where
+  next-inside : (at : ℕ) → at ≤ length text → (v : ℕ) (p : Cursor) → numberAt text at ≡ Value v p → p .at ≤ length text
+  next-inside at h v p e = (rw e at (number-within text at h)) .1
+
+  bad-inside : (at : ℕ) → at ≤ length text → (k : ℕ) → numberAt text at ≡ Bad k → k ≤ length text
+  bad-inside at h k e = rw e at (number-within text at h)
+
+  pub four-within : (at : ℕ) → at ≤ length text → FourWithin (length text) (fourAt text at)
+  unfolding fourAt
+  four-within at h =
+      let P = FourWithin (length text) in
+      by-number P (numberAt text at) (bad-inside at h) (λ code p e. let i = next-inside at h code p e in
+      by-number P (numberAt text (p .at)) (bad-inside (p .at) i) (λ x q f. let j = next-inside (p .at) i x q f in
+      by-number P (numberAt text (q .at)) (bad-inside (q .at) j) (λ y s g. let l = next-inside (q .at) j y s g in
+      by-number P (numberAt text (s .at)) (bad-inside (s .at) l) (next-inside (s .at) l))))
+
+  pub many-within : (n at : ℕ) → at ≤ length text → ManyWithin n (length text) (manyAt n text at .got) (manyAt n text at .end)
+  unfolding manyAt
+  many-within zero at h = (refl, h)
+  many-within (suc n) at h =
+      by-number (λ (x : Numbers). ManyWithin (suc n) (length text) (x .got) (x .end)) (numberAt text at) (bad-inside at h)
+      (λ v p e. one-more n (length text) v _ (manyAt n text (p .at) .end) (many-within n (p .at) (next-inside at h v p e)))
+
+-- stored from the front, the numbers are the front
+pub stored : (into xs : List ℕ) (n : ℕ) → length xs ≡ n → n ≤ length into → take n (sets into 0 xs) ≡ xs
+stored into xs n e h = rw (sets-eq xs into 0 (omega arith), ← e) (take-append-seam xs _)
