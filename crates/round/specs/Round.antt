@@ -4,11 +4,10 @@ use mathlib.Core.Bool.{Bool, true, false, cond}
 use mathlib.Core.List.{List, [], _∷_, _++_, append-assoc}
 use mathlib.Core.Path.{_≡_, refl, _∙_}
 use native.Mathlib.Omega.{arith}
-use lib.ListN.{length, length-append, drop}
+use lib.ListN.{length, length-append}
 use lib.Seq.{drop-append-seam}
 use lib.Dec.{ltb}
 use borrow.Author.Tests.{lt-ltb, le-leb, ltb-true, ltb-false, ne-eqb}
-use Rattle.scan.specs.declared.Number.{Number}
 use Rattle.scan.specs.declared.Number.the-variants.{Value}
 use Rattle.scan.specs.Number.{digit, closing, grows, more, start, numberMax, countMax, numberAt, countAt}
 use Rattle.ink.specs.Decimal.{decimal, digits}

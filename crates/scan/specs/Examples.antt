@@ -6,7 +6,7 @@ use Rattle.scan.specs.declared.Number.{Number}
 use Rattle.scan.specs.declared.Number.the-variants.{Value, Bad}
 use Rattle.scan.specs.declared.Four.the-variants.{Step, Bad as BadFour}
 use Rattle.scan.specs.declared.Many.the-variants.{Next, Bad as BadMany}
-use Rattle.scan.specs.Groups.{fourAt, numbers, manyAt}
+use Rattle.scan.specs.Groups.{fourAt, series, manyAt}
 use Rattle.scan.specs.Number.{numberAt, countAt, digit, closing, grows, more, start}
 
 abbrev value : ℕ → ℕ → Number
@@ -77,8 +77,8 @@ steps = (refl, refl, refl)
 
 -- the masks of `2 3 2\n`, and the homes of `1 0\n1 0,0\n`, bad at the comma before any is read; of `0 0 1` two are
 homes :
-    (manyAt 2 (50 ∷ 32 ∷ 51 ∷ 32 ∷ 50 ∷ 10 ∷ []) 2 ≡ numbers (3 ∷ 2 ∷ []) (Next (record { at = 6 })))
-    × (manyAt 2 (49 ∷ 32 ∷ 48 ∷ 10 ∷ 49 ∷ 32 ∷ 48 ∷ 44 ∷ 48 ∷ 10 ∷ []) 6 ≡ numbers [] (BadMany 7))
-    × (manyAt 4 (48 ∷ 32 ∷ 48 ∷ 32 ∷ 49 ∷ []) 0 ≡ numbers (0 ∷ 0 ∷ []) (BadMany 5))
+    (manyAt 2 (50 ∷ 32 ∷ 51 ∷ 32 ∷ 50 ∷ 10 ∷ []) 2 ≡ series (3 ∷ 2 ∷ []) (Next (record { at = 6 })))
+    × (manyAt 2 (49 ∷ 32 ∷ 48 ∷ 10 ∷ 49 ∷ 32 ∷ 48 ∷ 44 ∷ 48 ∷ 10 ∷ []) 6 ≡ series [] (BadMany 7))
+    × (manyAt 4 (48 ∷ 32 ∷ 48 ∷ 32 ∷ 49 ∷ []) 0 ≡ series (0 ∷ 0 ∷ []) (BadMany 5))
 unfolding digit closing grows more start manyAt
 homes = (refl, refl, refl)

@@ -1,6 +1,5 @@
-use Prim.Native.Nat.{suc, _-_, _≤_}
-use mathlib.Core.List.{[]}
-use mathlib.Core.Path.{_≡_, refl, sym}
+use Prim.Native.Nat.{_-_, _≤_}
+use mathlib.Core.Path.{_≡_, refl}
 use native.Mathlib.Nat.{sub-zero}
 use native.Mathlib.Numerals.{add-one}
 use native.Mathlib.Omega.{arith}
