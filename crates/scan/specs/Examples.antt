@@ -6,8 +6,10 @@ use Rattle.scan.specs.declared.Number.{Number}
 use Rattle.scan.specs.declared.Number.the-variants.{Value, Bad}
 use Rattle.scan.specs.declared.Four.the-variants.{Step, Bad as BadFour}
 use Rattle.scan.specs.declared.Many.the-variants.{Next, Bad as BadMany}
-use Rattle.scan.specs.Groups.{fourAt, series, manyAt}
+use Rattle.scan.specs.declared.Section.the-variants.{Whole, Outside, Bad as BadSection}
 use Rattle.scan.specs.Number.{numberAt, countAt, digit, closing, grows, more, start}
+use Rattle.scan.specs.Groups.{fourAt, series, manyAt}
+use Rattle.scan.specs.Sections.{part, among, numbersAt, sectionAt}
 
 abbrev value : ℕ → ℕ → Number
 value n at = Value n (record { at = at })
@@ -82,3 +84,15 @@ homes :
     × (manyAt 4 (48 ∷ 32 ∷ 48 ∷ 32 ∷ 49 ∷ []) 0 ≡ series (0 ∷ 0 ∷ []) (BadMany 5))
 unfolding digit closing grows more start manyAt
 homes = (refl, refl, refl)
+
+-- a count outside its range is told once its closing byte is read, before what follows: halls `0\n,`, `5 `, `5` with no closing byte, and `2 3 2\n`; sessions
+-- `17 ` and `1 0,`
+sections :
+    (sectionAt 4 1 (48 ∷ 10 ∷ 44 ∷ []) 0 ≡ part [] Outside)
+    × (sectionAt 4 1 (53 ∷ 32 ∷ []) 0 ≡ part [] Outside)
+    × (sectionAt 4 1 (53 ∷ []) 0 ≡ part [] (BadSection 1))
+    × (sectionAt 4 1 (50 ∷ 32 ∷ 51 ∷ 32 ∷ 50 ∷ 10 ∷ []) 0 ≡ part (3 ∷ 2 ∷ []) (Whole 2 (record { at = 6 })))
+    × (sectionAt 16 2 (49 ∷ 55 ∷ 32 ∷ []) 0 ≡ part [] Outside)
+    × (sectionAt 16 2 (49 ∷ 32 ∷ 48 ∷ 44 ∷ []) 0 ≡ part [] (BadSection 3))
+unfolding digit closing grows more start manyAt among numbersAt sectionAt
+sections = (refl, refl, refl, refl, refl, refl)

@@ -77,10 +77,10 @@ one-more n end v xs (BadMany k) h = h
 one-more n end v xs (Next p) h = (omega arith, h .1)
 
 module _ (text : List ℕ) where
-  next-inside : (at : ℕ) → at ≤ length text → (v : ℕ) (p : Cursor) → numberAt text at ≡ Value v p → p .at ≤ length text
+  pub next-inside : (at : ℕ) → at ≤ length text → (v : ℕ) (p : Cursor) → numberAt text at ≡ Value v p → p .at ≤ length text
   next-inside at h v p e = (rw e at (number-within text at h)) .1
 
-  bad-inside : (at : ℕ) → at ≤ length text → (k : ℕ) → numberAt text at ≡ Bad k → k ≤ length text
+  pub bad-inside : (at : ℕ) → at ≤ length text → (k : ℕ) → numberAt text at ≡ Bad k → k ≤ length text
   bad-inside at h k e = rw e at (number-within text at h)
 
   pub four-within : (at : ℕ) → at ≤ length text → FourWithin (length text) (fourAt text at)

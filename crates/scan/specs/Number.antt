@@ -84,7 +84,7 @@ module _ (most : ℕ) (early : Bool) (from : ℕ) (text : List ℕ) where
   unfolding start
   start-here h = rw (drop-cons text from 0 h, add-one from)
 
-and-true : (a b : Bool) → (a && b) ≡ true → (a ≡ true) × (b ≡ true)
+pub and-true : (a b : Bool) → (a && b) ≡ true → (a ≡ true) × (b ≡ true)
 and-true true b e = (refl, e)
 and-true false b e = absurd (false≢true e)
 

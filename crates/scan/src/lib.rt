@@ -1,12 +1,13 @@
 // Reading the script: the text is a lent slice, and the place in it a cursor by value.
 ghost use mathlib.Core.Path.{_≡_};
 ghost use mathlib.Core.Bool.{true, cond};
-ghost use Prim.Native.Nat.{_<_, _≤_, _^_};
+ghost use Prim.Native.Nat.{_*_, _<_, _≤_, _^_};
 ghost use lib.Dec.{leb};
 ghost use lib.ListN.{length, drop};
 ghost use lib.Seq.{sets};
 ghost use Rattle.scan.specs.Number.{digit, closing, grows, joined, start, numberAt, countAt};
 ghost use Rattle.scan.specs.Groups.{fourAt, manyAt};
+ghost use Rattle.scan.specs.Sections.{among, numbersAt, sectionAt};
 
 // "a place in the lent text"
 pub struct Cursor {
@@ -28,6 +29,13 @@ pub enum Four {
 // Where reading several numbers ended, likewise.
 pub enum Many {
     Next(Cursor),
+    Bad(usize),
+}
+
+// A section before the steps: how many numbers follow its count, with the place after them; a count outside its range; or bad text.
+pub enum Section {
+    Whole(usize, Cursor),
+    Outside,
     Bad(usize),
 }
 
@@ -161,4 +169,39 @@ pub fn read_many(text: &[u8], c: Cursor, n: usize, into: &mut [u64]) -> Many
         }
     }
     Many::Next(Cursor { at })
+}
+
+// Whether a count is 1 to `most`.
+fn counts(n: u64, most: u64) -> bool
+    ensures { λ r. ⌜ r ≡ among most n ⌝ }
+{
+    1 <= n && n <= most
+}
+
+// What follows a count of n.
+fn read_counted(text: &[u8], c: Cursor, n: u64, most: u64, each: usize, into: &mut [u64]) -> Section
+    requires { ⌜ most * each ≤ length (now into) ⌝ }
+    ensures { λ r. ⌜ (now (into .exit) ≡ sets (now (into .entry)) 0 (numbersAt most each n (now (text .entry)) (c .at) .got))
+        × (r ≡ numbersAt most each n (now (text .entry)) (c .at) .end) ⌝ }
+{
+    if !counts(n, most) {
+        return Section::Outside;
+    }
+    let m = n as usize * each;
+    match read_many(text, c, m, into) {
+        Many::Bad(k) => Section::Bad(k),
+        Many::Next(next) => Section::Whole(m, next),
+    }
+}
+
+// A count, and `each` numbers for each of these, stored from the front of `into` on: halls, sessions.
+pub fn read_section(text: &[u8], c: Cursor, most: u64, each: usize, into: &mut [u64]) -> Section
+    requires { ⌜ most * each ≤ length (now into) ⌝ }
+    ensures { λ r. ⌜ (now (into .exit) ≡ sets (now (into .entry)) 0 (sectionAt most each (now (text .entry)) (c .at) .got))
+        × (r ≡ sectionAt most each (now (text .entry)) (c .at) .end) ⌝ }
+{
+    match read_number(text, c) {
+        Number::Bad(k) => Section::Bad(k),
+        Number::Value(n, p) => read_counted(text, p, n, most, each, into),
+    }
 }
