@@ -76,28 +76,28 @@ one-more : (n end v : ℕ) (xs : List ℕ) (x : Many) → ManyWithin n end xs x 
 one-more n end v xs (BadMany k) h = h
 one-more n end v xs (Next p) h = (omega arith, h .1)
 
-module _ (text : List ℕ) where
-  pub next-inside : (at : ℕ) → at ≤ length text → (v : ℕ) (p : Cursor) → numberAt text at ≡ Value v p → p .at ≤ length text
-  next-inside at h v p e = (rw e at (number-within text at h)) .1
+module _ (text : List ℕ) (end : ℕ) (covers : length text ≤ end) where
+  pub next-inside : (at : ℕ) → at ≤ end → (v : ℕ) (p : Cursor) → numberAt text at ≡ Value v p → p .at ≤ end
+  next-inside at h v p e = (rw e at (number-within text end covers at h)) .1
 
-  pub bad-inside : (at : ℕ) → at ≤ length text → (k : ℕ) → numberAt text at ≡ Bad k → k ≤ length text
-  bad-inside at h k e = rw e at (number-within text at h)
+  pub bad-inside : (at : ℕ) → at ≤ end → (k : ℕ) → numberAt text at ≡ Bad k → k ≤ end
+  bad-inside at h k e = rw e at (number-within text end covers at h)
 
-  pub four-within : (at : ℕ) → at ≤ length text → FourWithin (length text) (fourAt text at)
+  pub four-within : (at : ℕ) → at ≤ end → FourWithin end (fourAt text at)
   unfolding fourAt
   four-within at h =
-      let P = FourWithin (length text) in
+      let P = FourWithin end in
       by-number P (numberAt text at) (bad-inside at h) (λ code p e. let i = next-inside at h code p e in
       by-number P (numberAt text (p .at)) (bad-inside (p .at) i) (λ x q f. let j = next-inside (p .at) i x q f in
       by-number P (numberAt text (q .at)) (bad-inside (q .at) j) (λ y s g. let l = next-inside (q .at) j y s g in
       by-number P (numberAt text (s .at)) (bad-inside (s .at) l) (next-inside (s .at) l))))
 
-  pub many-within : (n at : ℕ) → at ≤ length text → ManyWithin n (length text) (manyAt n text at .got) (manyAt n text at .end)
+  pub many-within : (n at : ℕ) → at ≤ end → ManyWithin n end (manyAt n text at .got) (manyAt n text at .end)
   unfolding manyAt
   many-within zero at h = (refl, h)
   many-within (suc n) at h =
-      by-number (λ (x : Series). ManyWithin (suc n) (length text) (x .got) (x .end)) (numberAt text at) (bad-inside at h)
-      (λ v p e. one-more n (length text) v _ (manyAt n text (p .at) .end) (many-within n (p .at) (next-inside at h v p e)))
+      by-number (λ (x : Series). ManyWithin (suc n) end (x .got) (x .end)) (numberAt text at) (bad-inside at h)
+      (λ v p e. one-more n end v _ (manyAt n text (p .at) .end) (many-within n (p .at) (next-inside at h v p e)))
 
 -- stored from the front, the numbers are the front
 pub stored : (into xs : List ℕ) (n : ℕ) → length xs ≡ n → n ≤ length into → take n (sets into 0 xs) ≡ xs

@@ -96,12 +96,12 @@ pub grows-digit : (v b : ℕ) → grows v b ≡ true → digit b ≡ true
 unfolding grows
 grows-digit v b e = and-true (not (eqb v 0)) _ e .1
 
--- no number is past `most`, and no place past the end
+-- No number is past `most`, and no place past the end: of the text, or any place that covers the text and where the number starts.
 abbrev pub Within : ℕ → ℕ → Number → Type 0
 Within most end (Value n p) = (n ≤ most) × (p .at ≤ end)
 Within most end (Bad k) = k ≤ end
 
-either : (P : Number → Type 0) (b : Bool) {x y : Number} → (b ≡ true → P x) → P y → P (cond b x y)
+pub either : {A : Type 0} (P : A → Type 0) (b : Bool) {x y : A} → (b ≡ true → P x) → P y → P (cond b x y)
 either P true h l = h refl
 either P false h l = l
 
@@ -129,9 +129,9 @@ module _ (most : ℕ) (early : Bool) (from end : ℕ) (here : from ≤ end) wher
       (λ e. more-within bs (from + 1) (b - 48) (omega (arith, digit-facts b e)) (omega arith))
       here
 
-module _ (text : List ℕ) (at : ℕ) (inside : at ≤ length text) where
-  pub number-within : Within numberMax (length text) (numberAt text at)
-  number-within = start-within numberMax false at (length text) inside (drop at text) (omega arith) (omega (arith, length-drop at text))
+module _ (text : List ℕ) (end : ℕ) (covers : length text ≤ end) (at : ℕ) (inside : at ≤ end) where
+  pub number-within : Within numberMax end (numberAt text at)
+  number-within = start-within numberMax false at end inside (drop at text) (omega arith) (omega (arith, length-drop at text))
 
-  pub count-within : Within countMax (length text) (countAt text at)
-  count-within = start-within countMax true at (length text) inside (drop at text) (omega arith) (omega (arith, length-drop at text))
+  pub count-within : Within countMax end (countAt text at)
+  count-within = start-within countMax true at end inside (drop at text) (omega arith) (omega (arith, length-drop at text))

@@ -1,8 +1,8 @@
 -- "Sections in order, each after its count: halls (mask each), sessions (home hall, home partition each)".
 use Prim.Native.Nat.{ℕ, _*_, _≤_}
-use mathlib.Core.Bool.{Bool, true, false, cond, _&&_}
+use mathlib.Core.Bool.{Bool, true, cond, _&&_}
 use mathlib.Core.List.{List, []}
-use mathlib.Core.Path.{_≡_, refl}
+use mathlib.Core.Path.{_≡_}
 use native.Mathlib.Nat.{le-refl, le-trans, mul-le-mul-right}
 use lib.Dec.{leb}
 use lib.ListN.{length}
@@ -12,7 +12,7 @@ use Rattle.scan.specs.declared.Many.{Many}
 use Rattle.scan.specs.declared.Many.the-variants.{Next, Bad as BadMany}
 use Rattle.scan.specs.declared.Section.{Section}
 use Rattle.scan.specs.declared.Section.the-variants.{Whole, Outside, Bad as BadSection}
-use Rattle.scan.specs.Number.{and-true, numberAt}
+use Rattle.scan.specs.Number.{numberAt, and-true, either}
 use Rattle.scan.specs.Groups.{onNumber, onMany, by-number, manyAt, ManyWithin, next-inside, bad-inside, many-within}
 
 -- the numbers read, and how that ended
@@ -45,10 +45,6 @@ unfoldable pub sectionAt : ℕ → ℕ → List ℕ → ℕ → Part
 sectionAt most each text at =
     onNumber (numberAt text at) (λ k. part [] (BadSection k)) (λ n p. numbersAt most each n text (p .at))
 
-by-test : (P : Part → Type 0) (b : Bool) {x y : Part} → (b ≡ true → P x) → P y → P (cond b x y)
-by-test P true h l = h refl
-by-test P false h l = l
-
 -- room for the most is room for n
 pub among-fits : (most each n m : ℕ) → among most n ≡ true → most * each ≤ m → n * each ≤ m
 unfolding among
@@ -65,13 +61,13 @@ whole-within : (most n end : ℕ) (xs : List ℕ) (x : Many) → n ≤ most → 
 whole-within most n end xs (BadMany k) l h = h
 whole-within most n end xs (Next p) l h = (h .0, l, h .1)
 
-pub section-within : (most each : ℕ) (text : List ℕ) (at : ℕ) → at ≤ length text
-    → let x = sectionAt most each text at in SectionWithin (most * each) (length text) (x .got) (x .end)
+pub section-within : (text : List ℕ) (end : ℕ) → length text ≤ end → (most each at : ℕ) → at ≤ end
+    → let x = sectionAt most each text at in SectionWithin (most * each) end (x .got) (x .end)
 unfolding sectionAt numbersAt
-section-within most each text at h =
-    let P : Part → Type 0 = λ x. SectionWithin (most * each) (length text) (x .got) (x .end) in
-    by-number P (numberAt text at) (bad-inside text at h) (λ n p e.
-    by-test P (among most n)
-    (λ f. whole-within (most * each) (n * each) (length text) _ (manyAt (n * each) text (p .at) .end) (among-fits most each n _ f (le-refl _))
-    (many-within text (n * each) (p .at) (next-inside text at h n p e)))
+section-within text end covers most each at h =
+    let P : Part → Type 0 = λ x. SectionWithin (most * each) end (x .got) (x .end) in
+    by-number P (numberAt text at) (bad-inside text end covers at h) (λ n p e.
+    either P (among most n)
+    (λ f. whole-within (most * each) (n * each) end _ (manyAt (n * each) text (p .at) .end) (among-fits most each n _ f (le-refl _))
+    (many-within text end covers (n * each) (p .at) (next-inside text end covers at h n p e)))
     tt)
