@@ -1,17 +1,21 @@
 ghost use mathlib.Core.Path.{_≡_};
 ghost use Prim.Native.Nat.{_<_, _≤_};
 ghost use lib.ListN.{length};
-ghost use Rattle.book.specs.Sizes.{keys, placesMax, partitionsMax};
+ghost use Rattle.book.specs.Sizes.{keys, placesMax, partitionsMax, hallsMax};
 ghost use Rattle.book.specs.Cells.{Partitions};
 ghost use Rattle.book.specs.Servers.{partitionOf};
-ghost use Rattle.book.specs.Views.{later as isLater, merge as merged, version};
+ghost use mathlib.Core.Bool.{_&&_};
+ghost use Rattle.book.specs.Views.{later as isLater, merge as merged, version, versionsOf, wroteBy, heldView};
 ghost use Rattle.room.specs.Layout.{size, store};
+ghost use Rattle.views.specs.Merging.{Looks, joined};
 use book::Stamp;
 use book::Timestamp;
 use book::TxNumber;
 use book::View;
 use room::COMMIT_TIME;
 use room::FROM;
+use room::HELD;
+use room::KEY_SET;
 use room::PARTITIONS;
 use room::VALUE;
 
@@ -59,4 +63,51 @@ pub fn version_at(room: &[u64], k: usize, t: usize) -> View
     let hall = room::get(room, FROM, t, 0, 0, 0);
     let number = TxNumber(t as u64 + 1);
     View::Seen(value, Stamp { time, hall, number })
+}
+
+// Hall h's server of key k's partition p holds what the transaction at place t wrote to it, at or below S.
+fn visible(room: &[u64], h: usize, p: usize, k: usize, s: Timestamp, t: usize) -> bool
+    requires { ⌜ Looks (now room) h p k t ⌝ }
+    ensures { λ r. ⌜ r ≡ (versionsOf (store (now (room .entry))) h k t && wroteBy (store (now (room .entry))) k (s .0) t) ⌝ }
+{
+    if room::get(room, HELD, h, p, t, 0) != 1 {
+        return false;
+    }
+    if !masks::has(room::get(room, KEY_SET, t, 0, 0, 0), k) {
+        return false;
+    }
+    room::get(room, COMMIT_TIME, t, 0, 0, 0) <= s.0
+}
+
+// The view so far, with what the transaction at place t adds to it.
+fn join(
+    room: &[u64],
+    h: usize,
+    p: usize,
+    k: usize,
+    s: Timestamp,
+    t: usize,
+    sofar: View,
+) -> View
+    requires { ⌜ Looks (now room) h p k t ⌝ }
+    ensures { λ r. ⌜ r ≡ joined (store (now (room .entry))) h k (s .0) t sofar ⌝ }
+{
+    if visible(room, h, p, k, s, t) {
+        merge(sofar, version_at(room, k, t))
+    } else {
+        sofar
+    }
+}
+
+// What hall h's server knows of key k at S.
+pub fn held_view(room: &[u64], h: usize, k: usize, s: Timestamp) -> View
+    requires { ⌜ (length (now room) ≡ size) × (0 < store (now room) Partitions) × (store (now room) Partitions ≤ partitionsMax) × (h < hallsMax) × (k < keys) ⌝ }
+    ensures { λ r. ⌜ r ≡ heldView (store (now (room .entry))) h k (s .0) ⌝ }
+{
+    let p = partition_of(room, k);
+    let mut sofar = View::Nothing;
+    for t in 0..64 {
+        sofar = join(room, h, p, k, s, t, sofar);
+    }
+    sofar
 }
