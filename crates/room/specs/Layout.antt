@@ -1,11 +1,11 @@
--- Where each cell lies in the lent room: a row of the tables for each kind of cell, in the book's numbering.
+-- Where each cell lies in the lent room: for each kind of cell its first word, its steps and its counts, in the book's numbering.
 use Prim.Native.Nat.{ℕ, zero, suc, _+_, _*_, _-_, _/_, _%_, _<_}
 use mathlib.Core.Bool.{Bool, cond, _&&_}
 use mathlib.Core.List.{List, [], _∷_}
-use lib.Dec.{eqb, ltb}
+use lib.Dec.{ltb}
 use lib.ListN.{getD}
 use Rattle.book.specs.Sizes.{hallsMax, partitionsMax, sessionsMax, keys, placesMax, slots}
-use Rattle.book.specs.Cells.{Cell, cell, same, Store}
+use Rattle.book.specs.Cells.{Cell, cell, Store}
 
 -- the words of a room
 abbrev pub size : ℕ
@@ -14,17 +14,16 @@ size = 7304
 abbrev pub kinds : ℕ
 kinds = 34
 
--- By lines: the setup's five kinds; a server's five; a session's first seven and its four by key; a transaction's five and its two by partition;
--- a channel's four; the two kinds of note. The word of a kind's first cell:
+-- The kinds come in blocks: 0 to 4 the setup's, 5 to 9 a server's, 10 to 20 a session's, 21 to 27 a transaction's, 28 to 31 a channel's,
+-- 32 and 33 the notes.
+-- The word of a kind's first cell, by lines of a block each:
 abbrev pub base : ℕ → ℕ
 base n =
     getD
     (0 ∷ 1 ∷ 2 ∷ 3 ∷ 4
     ∷ 8 ∷ 9 ∷ 10 ∷ 11 ∷ 15
-    ∷ 1144 ∷ 1145 ∷ 1146 ∷ 1147 ∷ 1148 ∷ 1149 ∷ 1150
-    ∷ 1151 ∷ 1183 ∷ 1215 ∷ 1247
-    ∷ 3304 ∷ 3305 ∷ 3306 ∷ 3307 ∷ 3308
-    ∷ 3340 ∷ 3344
+    ∷ 1144 ∷ 1145 ∷ 1146 ∷ 1147 ∷ 1148 ∷ 1149 ∷ 1150 ∷ 1151 ∷ 1183 ∷ 1215 ∷ 1247
+    ∷ 3304 ∷ 3305 ∷ 3306 ∷ 3307 ∷ 3308 ∷ 3340 ∷ 3344
     ∷ 6120 ∷ 6121 ∷ 6122 ∷ 6130
     ∷ 7272 ∷ 7288 ∷ [])
     n 0
@@ -32,102 +31,45 @@ base n =
 -- the words from one cell to the next by its first, second and third index; by the fourth it is 1
 abbrev pub stepI : ℕ → ℕ
 stepI n =
-    getD
-    (1 ∷ 1 ∷ 1 ∷ 1 ∷ 1
-    ∷ 284 ∷ 284 ∷ 284 ∷ 284 ∷ 284
-    ∷ 135 ∷ 135 ∷ 135 ∷ 135 ∷ 135 ∷ 135 ∷ 135
-    ∷ 135 ∷ 135 ∷ 135 ∷ 135
-    ∷ 44 ∷ 44 ∷ 44 ∷ 44 ∷ 44
-    ∷ 44 ∷ 44
-    ∷ 288 ∷ 288 ∷ 288 ∷ 288
-    ∷ 4 ∷ 4 ∷ [])
-    n 0
+    cond (ltb n 5) 1
+    (cond (ltb n 10) 284 (cond (ltb n 21) 135 (cond (ltb n 28) 44 (cond (ltb n 32) 288 4))))
 
 abbrev pub stepJ : ℕ → ℕ
-stepJ n =
-    getD
-    (1 ∷ 1 ∷ 1 ∷ 1 ∷ 1
-    ∷ 71 ∷ 71 ∷ 71 ∷ 71 ∷ 71
-    ∷ 1 ∷ 1 ∷ 1 ∷ 1 ∷ 1 ∷ 1 ∷ 1
-    ∷ 1 ∷ 1 ∷ 1 ∷ 1
-    ∷ 1 ∷ 1 ∷ 1 ∷ 1 ∷ 1
-    ∷ 1 ∷ 1
-    ∷ 72 ∷ 72 ∷ 72 ∷ 72
-    ∷ 1 ∷ 1 ∷ [])
-    n 0
+stepJ n = cond (ltb n 5) 1 (cond (ltb n 10) 71 (cond (ltb n 28) 1 (cond (ltb n 32) 72 1)))
 
 abbrev pub stepK : ℕ → ℕ
-stepK n =
-    getD
-    (1 ∷ 1 ∷ 1 ∷ 1 ∷ 1
-    ∷ 1 ∷ 1 ∷ 1 ∷ 1 ∷ 1
-    ∷ 1 ∷ 1 ∷ 1 ∷ 1 ∷ 1 ∷ 1 ∷ 1
-    ∷ 1 ∷ 1 ∷ 1 ∷ 1
-    ∷ 1 ∷ 1 ∷ 1 ∷ 1 ∷ 1
-    ∷ 1 ∷ 1
-    ∷ 18 ∷ 18 ∷ 18 ∷ 18
-    ∷ 1 ∷ 1 ∷ [])
-    n 0
+stepK n = cond (ltb n 28) 1 (cond (ltb n 32) 18 1)
 
 -- how many there are of each index
 abbrev pub countI : ℕ → ℕ
 countI n =
-    getD
-    (1 ∷ 1 ∷ 1 ∷ 1 ∷ hallsMax
-    ∷ hallsMax ∷ hallsMax ∷ hallsMax ∷ hallsMax ∷ hallsMax
-    ∷ sessionsMax ∷ sessionsMax ∷ sessionsMax ∷ sessionsMax ∷ sessionsMax ∷ sessionsMax ∷ sessionsMax
-    ∷ sessionsMax ∷ sessionsMax ∷ sessionsMax ∷ sessionsMax
-    ∷ placesMax ∷ placesMax ∷ placesMax ∷ placesMax ∷ placesMax
-    ∷ placesMax ∷ placesMax
-    ∷ hallsMax ∷ hallsMax ∷ hallsMax ∷ hallsMax
-    ∷ hallsMax ∷ hallsMax ∷ [])
-    n 0
+    cond (ltb n 4) 1
+    (cond (ltb n 10) hallsMax (cond (ltb n 21) sessionsMax (cond (ltb n 28) placesMax hallsMax)))
 
 abbrev pub countJ : ℕ → ℕ
 countJ n =
-    getD
-    (1 ∷ 1 ∷ 1 ∷ 1 ∷ 1
-    ∷ partitionsMax ∷ partitionsMax ∷ partitionsMax ∷ partitionsMax ∷ partitionsMax
-    ∷ 1 ∷ 1 ∷ 1 ∷ 1 ∷ 1 ∷ 1 ∷ 1
-    ∷ keys ∷ keys ∷ keys ∷ keys
-    ∷ 1 ∷ 1 ∷ 1 ∷ 1 ∷ keys
-    ∷ partitionsMax ∷ partitionsMax
-    ∷ partitionsMax ∷ partitionsMax ∷ partitionsMax ∷ partitionsMax
-    ∷ partitionsMax ∷ hallsMax ∷ [])
-    n 0
+    cond (ltb n 5) 1
+    (cond (ltb n 10) partitionsMax
+    (cond (ltb n 17) 1
+    (cond (ltb n 21) keys
+    (cond (ltb n 25) 1
+    (cond (ltb n 26) keys
+    (cond (ltb n 33) partitionsMax hallsMax))))))
 
 abbrev pub countK : ℕ → ℕ
 countK n =
-    getD
-    (1 ∷ 1 ∷ 1 ∷ 1 ∷ 1
-    ∷ 1 ∷ 1 ∷ 1 ∷ hallsMax ∷ placesMax
-    ∷ 1 ∷ 1 ∷ 1 ∷ 1 ∷ 1 ∷ 1 ∷ 1
-    ∷ 1 ∷ 1 ∷ 1 ∷ 1
-    ∷ 1 ∷ 1 ∷ 1 ∷ 1 ∷ 1
-    ∷ 1 ∷ 1
-    ∷ hallsMax ∷ hallsMax ∷ hallsMax ∷ hallsMax
-    ∷ 1 ∷ 1 ∷ [])
-    n 0
+    cond (ltb n 8) 1
+    (cond (ltb n 9) hallsMax (cond (ltb n 10) placesMax (cond (ltb n 28) 1 (cond (ltb n 32) hallsMax 1))))
 
 abbrev pub countL : ℕ → ℕ
-countL n =
-    getD
-    (1 ∷ 1 ∷ 1 ∷ 1 ∷ 1
-    ∷ 1 ∷ 1 ∷ 1 ∷ 1 ∷ 1
-    ∷ 1 ∷ 1 ∷ 1 ∷ 1 ∷ 1 ∷ 1 ∷ 1
-    ∷ 1 ∷ 1 ∷ 1 ∷ 1
-    ∷ 1 ∷ 1 ∷ 1 ∷ 1 ∷ 1
-    ∷ 1 ∷ 1
-    ∷ 1 ∷ 1 ∷ slots ∷ slots
-    ∷ 1 ∷ 1 ∷ [])
-    n 0
+countL n = cond (ltb n 30) 1 (cond (ltb n 32) slots 1)
 
 -- the word of a cell
 abbrev pub at : Cell → ℕ
 at c =
     base (c .kind) + c .i * stepI (c .kind) + c .j * stepJ (c .kind) + c .k * stepK (c .kind) + c .l
 
--- a cell of the room: its kind is one of the tables', and each index is below its count
+-- a cell of the room: its kind is one of them, and each index is below its count
 abbrev pub Within : Cell → Type 0
 Within c =
     (c .kind < kinds)

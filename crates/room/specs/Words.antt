@@ -1,16 +1,16 @@
 -- Each cell of the room has a word of its own, and each word is a cell's. So one word set is one cell set.
 use Prim.Native.Nat.{ℕ, _<_}
-use mathlib.Core.Bool.{Bool, true, false, cond, _&&_, true≢false}
-use mathlib.Core.Path.{_≡_, refl, sym, ap, _∙_}
+use mathlib.Core.Bool.{true, false, _&&_, true≢false}
+use mathlib.Core.Path.{_≡_, sym, ap, _∙_}
 use mathlib.Core.List.{List}
 use lib.Dec.{eqb, ltb}
 use lib.ListN.{length, getD, set}
 use lib.Seq.{getD-set-same, getD-set-other}
 use borrow.Author.Tests.{ltb-true, eqb-true, lt-ltb}
-use Rattle.book.specs.Cells.{Cell, cell, same, Store, _⟨_≔_⟩}
-use Rattle.book.specs.Cases.{by-test, and-true, same-cell, at-same, eqb-refl}
-use Rattle.book.specs.Folds.{all, all-at}
-use Rattle.room.specs.Layout.{size, kinds, countI, countJ, countK, countL, at, Within, fits, valid, store, cellAt}
+use Rattle.book.specs.Cells.{Cell, same, _⟨_≔_⟩}
+use Rattle.book.specs.Cases.{by-test, and-true, same-cell, eqb-refl}
+use Rattle.book.specs.Folds.{all-at}
+use Rattle.room.specs.Layout.{size, kinds, countI, countJ, countK, countL, at, Within, valid, store, cellAt}
 use Rattle.room.specs.Checked.{found, each-cell, named, each-word}
 
 -- the test of the update: of one kind, and the same indices

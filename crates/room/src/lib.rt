@@ -2,7 +2,7 @@ ghost use mathlib.Core.Path.{_≡_};
 ghost use Prim.Native.Nat.{_<_};
 ghost use lib.ListN.{length};
 ghost use Rattle.book.specs.Cells.{cell, _⟨_≔_⟩};
-ghost use Rattle.room.specs.Layout.{size, at, Within, store};
+ghost use Rattle.room.specs.Layout.{size, stepI, stepJ, stepK, at, Within, store};
 
 // The kinds of cell, as the book numbers them.
 pub const HALLS: usize = 0;
@@ -115,122 +115,57 @@ const BASE: [usize; 34] = [
 ];
 
 // The words from one cell to the next by its first, second and third index.
-const STEP_I: [usize; 34] = [
-    1,
-    1,
-    1,
-    1,
-    1,
-    284,
-    284,
-    284,
-    284,
-    284,
-    135,
-    135,
-    135,
-    135,
-    135,
-    135,
-    135,
-    135,
-    135,
-    135,
-    135,
-    44,
-    44,
-    44,
-    44,
-    44,
-    44,
-    44,
-    288,
-    288,
-    288,
-    288,
-    4,
-    4,
-];
+fn step_i(kind: usize) -> usize
+    ensures { λ r. ⌜ r ≡ stepI kind ⌝ }
+{
+    if kind < 5 {
+        1
+    } else if kind < 10 {
+        284
+    } else if kind < 21 {
+        135
+    } else if kind < 28 {
+        44
+    } else if kind < 32 {
+        288
+    } else {
+        4
+    }
+}
 
-const STEP_J: [usize; 34] = [
-    1,
-    1,
-    1,
-    1,
-    1,
-    71,
-    71,
-    71,
-    71,
-    71,
-    1,
-    1,
-    1,
-    1,
-    1,
-    1,
-    1,
-    1,
-    1,
-    1,
-    1,
-    1,
-    1,
-    1,
-    1,
-    1,
-    1,
-    1,
-    72,
-    72,
-    72,
-    72,
-    1,
-    1,
-];
+fn step_j(kind: usize) -> usize
+    ensures { λ r. ⌜ r ≡ stepJ kind ⌝ }
+{
+    if kind < 5 {
+        1
+    } else if kind < 10 {
+        71
+    } else if kind < 28 {
+        1
+    } else if kind < 32 {
+        72
+    } else {
+        1
+    }
+}
 
-const STEP_K: [usize; 34] = [
-    1,
-    1,
-    1,
-    1,
-    1,
-    1,
-    1,
-    1,
-    1,
-    1,
-    1,
-    1,
-    1,
-    1,
-    1,
-    1,
-    1,
-    1,
-    1,
-    1,
-    1,
-    1,
-    1,
-    1,
-    1,
-    1,
-    1,
-    1,
-    18,
-    18,
-    18,
-    18,
-    1,
-    1,
-];
+fn step_k(kind: usize) -> usize
+    ensures { λ r. ⌜ r ≡ stepK kind ⌝ }
+{
+    if kind < 28 {
+        1
+    } else if kind < 32 {
+        18
+    } else {
+        1
+    }
+}
 
 fn place(kind: usize, i: usize, j: usize, k: usize, l: usize) -> usize
     requires { ⌜ Within (cell kind i j k l) ⌝ }
     ensures { λ r. ⌜ (r ≡ at (cell kind i j k l)) × (r < size) ⌝ }
 {
-    BASE[kind] + i * STEP_I[kind] + j * STEP_J[kind] + k * STEP_K[kind] + l
+    BASE[kind] + i * step_i(kind) + j * step_j(kind) + k * step_k(kind) + l
 }
 
 pub fn get(room: &[u64], kind: usize, i: usize, j: usize, k: usize, l: usize) -> u64
