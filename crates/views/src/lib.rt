@@ -1,13 +1,13 @@
+// "Views and merging": what a server knows of a key.
 ghost use mathlib.Core.Path.{_≡_};
-ghost use Prim.Native.Nat.{_<_, _≤_};
-ghost use lib.ListN.{length};
-ghost use Rattle.book.specs.Sizes.{keys, placesMax, partitionsMax, hallsMax};
-ghost use Rattle.book.specs.Cells.{Partitions};
-ghost use Rattle.book.specs.Servers.{partitionOf};
 ghost use mathlib.Core.Bool.{_&&_};
+ghost use Prim.Native.Nat.{_<_};
+ghost use lib.ListN.{length};
+ghost use Rattle.book.specs.Sizes.{hallsMax, partitionsMax, keys, placesMax};
+ghost use Rattle.book.specs.Servers.{partitionOf};
 ghost use Rattle.book.specs.Views.{later as isLater, merge as merged, version, versionsOf, wroteBy, heldView};
 ghost use Rattle.room.specs.Layout.{size, store};
-ghost use Rattle.views.specs.Merging.{Looks, joined};
+ghost use Rattle.views.specs.Merging.{Parted, Looks, joined};
 use book::Stamp;
 use book::Timestamp;
 use book::TxNumber;
@@ -47,7 +47,7 @@ pub fn merge(a: View, b: View) -> View
 
 // "key k in partition k mod N"
 pub fn partition_of(room: &[u64], k: usize) -> usize
-    requires { ⌜ (length (now room) ≡ size) × (0 < store (now room) Partitions) × (store (now room) Partitions ≤ partitionsMax) ⌝ }
+    requires { ⌜ (length (now room) ≡ size) × Parted (store (now room)) ⌝ }
     ensures { λ r. ⌜ (r ≡ partitionOf (store (now (room .entry))) k) × (r < partitionsMax) ⌝ }
 {
     k % (room::get(room, PARTITIONS, 0, 0, 0, 0) as usize)
@@ -73,22 +73,14 @@ fn visible(room: &[u64], h: usize, p: usize, k: usize, s: Timestamp, t: usize) -
     if room::get(room, HELD, h, p, t, 0) != 1 {
         return false;
     }
-    if !masks::has(room::get(room, KEY_SET, t, 0, 0, 0), k) {
+    if !masks::has(room::get(room, KEY_SET, t, 0, 0, 0), k as u64) {
         return false;
     }
     room::get(room, COMMIT_TIME, t, 0, 0, 0) <= s.0
 }
 
 // The view so far, with what the transaction at place t adds to it.
-fn join(
-    room: &[u64],
-    h: usize,
-    p: usize,
-    k: usize,
-    s: Timestamp,
-    t: usize,
-    sofar: View,
-) -> View
+fn join(room: &[u64], h: usize, p: usize, k: usize, s: Timestamp, t: usize, sofar: View) -> View
     requires { ⌜ Looks (now room) h p k t ⌝ }
     ensures { λ r. ⌜ r ≡ joined (store (now (room .entry))) h k (s .0) t sofar ⌝ }
 {
@@ -101,7 +93,7 @@ fn join(
 
 // What hall h's server knows of key k at S.
 pub fn held_view(room: &[u64], h: usize, k: usize, s: Timestamp) -> View
-    requires { ⌜ (length (now room) ≡ size) × (0 < store (now room) Partitions) × (store (now room) Partitions ≤ partitionsMax) × (h < hallsMax) × (k < keys) ⌝ }
+    requires { ⌜ (length (now room) ≡ size) × Parted (store (now room)) × (h < hallsMax) × (k < keys) ⌝ }
     ensures { λ r. ⌜ r ≡ heldView (store (now (room .entry))) h k (s .0) ⌝ }
 {
     let p = partition_of(room, k);

@@ -10,4 +10,4 @@ partition-of-spec =
     (tie.spec
     (λ c κs. search needs)
     (λ c. search needs)
-    (λ c. (rw (c .get .ensures), rw (c .get .ensures) (omega (arith, mod-lt (c .before .before .args .k) (c .before .before .pre .1))))))
+    (λ c. (rw (c .get .ensures), rw (c .get .ensures) (omega (arith, mod-lt (c .before .before .args .k) (c .before .before .pre .1 .0))))))
