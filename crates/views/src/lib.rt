@@ -4,7 +4,7 @@ ghost use mathlib.Core.Bool.{_&&_};
 ghost use Prim.Native.Nat.{_<_};
 ghost use lib.ListN.{length};
 ghost use Rattle.book.specs.Sizes.{hallsMax, partitionsMax, keys, placesMax};
-ghost use Rattle.book.specs.Servers.{partitionOf};
+ghost use Rattle.book.specs.Servers.{partitionOf, numberOf};
 ghost use Rattle.book.specs.Views.{later as isLater, merge as merged, version, versionsOf, wroteBy, heldView};
 ghost use Rattle.room.specs.Layout.{size, store};
 ghost use Rattle.views.specs.Merging.{Parted, Looks, joined};
@@ -53,6 +53,14 @@ pub fn partition_of(room: &[u64], k: usize) -> usize
     k % (room::get(room, PARTITIONS, 0, 0, 0, 0) as usize)
 }
 
+// "transaction number (1, 2, .. in order of request)"
+pub fn number_of(t: usize) -> TxNumber
+    requires { ⌜ t < placesMax ⌝ }
+    ensures { λ r. ⌜ r .0 ≡ numberOf t ⌝ }
+{
+    TxNumber(t as u64 + 1)
+}
+
 // What the transaction at place t wrote to key k: "a value with its stamp".
 pub fn version_at(room: &[u64], k: usize, t: usize) -> View
     requires { ⌜ (length (now room) ≡ size) × (k < keys) × (t < placesMax) ⌝ }
@@ -61,7 +69,7 @@ pub fn version_at(room: &[u64], k: usize, t: usize) -> View
     let value = room::get(room, VALUE, t, k, 0, 0);
     let time = Timestamp(room::get(room, COMMIT_TIME, t, 0, 0, 0));
     let hall = room::get(room, FROM, t, 0, 0, 0);
-    let number = TxNumber(t as u64 + 1);
+    let number = number_of(t);
     View::Seen(value, Stamp { time, hall, number })
 }
 

@@ -1,4 +1,3 @@
-use native.Mathlib.Numerals.{add-one}
 use borrow.Author.Needs.{needs}
 use Rattle.views.proofs.version_at.Statement.{statement}
 use Rattle.views.proofs.version_at.Tie as tie
@@ -10,5 +9,5 @@ version-at-spec =
     (λ c κs. search needs)
     (λ c κs. search needs)
     (λ c κs. search needs)
-    (λ c. search needs)
-    (λ c. rw (c .get3 .ensures, c .before .get2 .ensures, c .before .before .get .ensures, add-one)))
+    (λ c κs. search needs)
+    (λ c. rw (c .number-of .ensures, c .before .get3 .ensures, c .before .before .get2 .ensures, c .before .before .before .get .ensures)))
