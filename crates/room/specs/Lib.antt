@@ -1,3 +1,6 @@
 pub mod Layout
 pub mod Checked
 pub mod Words
+pub mod Lay
+pub mod Loops
+pub mod Bulk
