@@ -5,16 +5,16 @@ ghost use Prim.Native.Nat.{_+_, _-_, _≤_, _<_, max};
 ghost use lib.ListN.{length};
 ghost use lib.Dec.{eqb, leb};
 ghost use Rattle.book.specs.Sizes.{hallsMax, partitionsMax, sessionsMax, keys, placesMax};
-ghost use Rattle.book.specs.Cells.{cell, _⟨_≔_⟩, Transactions, HomeHall, HomePartition, WriteSet, WriteValue, CacheTime, Value, State, asked};
+ghost use Rattle.book.specs.Cells.{cell, _⟨_≔_⟩, Transactions};
 ghost use Rattle.book.specs.Folds.{count};
 ghost use Rattle.book.specs.Sets.{member, include};
 ghost use Rattle.book.specs.Servers.{partitionOf};
 ghost use Rattle.book.specs.SessionSteps.{start as startStore, startAnswer, read as readStore, readAnswer, write as writeStore, hasWrites, touches as touched, ask as askStore, end as endStore, endAnswer};
 ghost use Rattle.room.specs.Layout.{size, Within, store};
 ghost use Rattle.views.specs.Merging.{Parted};
-ghost use Rattle.sessions.specs.Starting.{Homed, begun, cleaned};
+ghost use Rattle.sessions.specs.Starting.{Homed, begun, cleanedAt, cleaned};
 ghost use Rattle.sessions.specs.Reading.{kept};
-ghost use Rattle.sessions.specs.Asking.{requested, copied, askedAll};
+ghost use Rattle.sessions.specs.Asking.{requested, copiedAt, copied, askedAt, askedAll};
 use book::Answer;
 use book::Reading;
 use book::Timestamp;
@@ -70,7 +70,7 @@ fn begin(room: &mut [u64], s: usize, h: usize, p: usize, snapshot: Timestamp)
 // One key of the cache.
 fn clean(room: &mut [u64], s: usize, k: usize, snapshot: Timestamp)
     requires { ⌜ (length (now room) ≡ size) × (s < sessionsMax) × (k < keys) ⌝ }
-    ensures { λ r. ⌜ (length (now (room .exit)) ≡ size) × (store (now (room .exit)) ≡ store (now (room .entry)) ⟨ CacheTime s k ≔ cond (leb (store (now (room .entry)) (CacheTime s k)) (snapshot .0)) 0 (store (now (room .entry)) (CacheTime s k)) ⟩) ⌝ }
+    ensures { λ r. ⌜ (length (now (room .exit)) ≡ size) × (store (now (room .exit)) ≡ cleanedAt k (store (now (room .entry))) s (snapshot .0)) ⌝ }
 {
     let time = room::get(room, CACHE_TIME, s, k, 0, 0);
     room::put_if(room, time <= snapshot.0, CACHE_TIME, s, k, 0, 0, 0);
@@ -204,7 +204,7 @@ fn request(room: &mut [u64], s: usize, t: usize, m: u64)
 
 fn copy_value(room: &mut [u64], s: usize, t: usize, k: usize)
     requires { ⌜ (length (now room) ≡ size) × (s < sessionsMax) × (t < placesMax) × (k < keys) ⌝ }
-    ensures { λ r. ⌜ (length (now (room .exit)) ≡ size) × (store (now (room .exit)) ≡ store (now (room .entry)) ⟨ Value t k ≔ store (now (room .entry)) (WriteValue s k) ⟩) ⌝ }
+    ensures { λ r. ⌜ (length (now (room .exit)) ≡ size) × (store (now (room .exit)) ≡ copiedAt k (store (now (room .entry))) s t) ⌝ }
 {
     let v = room::get(room, WRITE_VALUE, s, k, 0, 0);
     room::put(room, VALUE, t, k, 0, 0, v);
@@ -223,7 +223,7 @@ fn copy_values(room: &mut [u64], s: usize, t: usize)
 // Partition p becomes asked if a key of it is written, and is then one more of n.
 fn ask_state(room: &mut [u64], t: usize, m: u64, p: usize, n: u64) -> u64
     requires { ⌜ (length (now room) ≡ size) × Parted (store (now room)) × (t < placesMax) × (p < partitionsMax) × (n ≤ p) ⌝ }
-    ensures { λ r. ⌜ (length (now (room .exit)) ≡ size) × (r ≡ cond (touched (store (now (room .entry))) m p) (n + 1) n) × (r ≤ p + 1) × (store (now (room .exit)) ≡ store (now (room .entry)) ⟨ State t p ≔ cond (touched (store (now (room .entry))) m p) asked (store (now (room .entry)) (State t p)) ⟩) ⌝ }
+    ensures { λ r. ⌜ (length (now (room .exit)) ≡ size) × (r ≡ cond (touched (store (now (room .entry))) m p) (n + 1) n) × (r ≤ p + 1) × (store (now (room .exit)) ≡ askedAt p (store (now (room .entry))) t m) ⌝ }
 {
     let written = touches(room, m, p);
     room::put_if(room, written, STATE, t, p, 0, 0, 1);

@@ -1,16 +1,15 @@
 -- The view of a key, one transaction after another.
-use Prim.Native.Nat.{ℕ, _+_, _≤_, _<_}
-use mathlib.Core.Bool.{Bool, cond, _&&_}
+use Prim.Native.Nat.{ℕ, _≤_, _<_}
+use mathlib.Core.Bool.{cond, _&&_}
 use mathlib.Core.Path.{_≡_, refl}
 use mathlib.Core.List.{List}
-use native.Mathlib.Numerals.{add-one}
 use lib.ListN.{length}
 use Rattle.book.specs.declared.View.{View}
 use Rattle.book.specs.declared.View.the-variants.{Nothing, Seen}
 use Rattle.book.specs.Sizes.{hallsMax, partitionsMax, keys, placesMax}
 use Rattle.book.specs.Cells.{Store, Partitions}
 use Rattle.book.specs.Servers.{partitionOf}
-use Rattle.book.specs.Views.{merge, mergeAll, version, versionsOf, wroteBy}
+use Rattle.book.specs.Views.{merge, version, versionsOf, wroteBy}
 use Rattle.room.specs.Layout.{size, store}
 
 -- "1 to 4 partitions"
@@ -30,11 +29,3 @@ merge-nothing (Seen v s) = refl
 -- the view so far, with what transaction t adds to it at hall h's server
 abbrev pub joined : Store → ℕ → ℕ → ℕ → ℕ → View → View
 joined σ h k S t sofar = merge sofar (cond (versionsOf σ h k t && wroteBy σ k S t) (version σ k t) Nothing)
-
-pub mergeAll-none : (ok : ℕ → Bool) (f : ℕ → View) → mergeAll 0 ok f ≡ Nothing
-unfolding mergeAll
-mergeAll-none ok f = refl
-
-pub mergeAll-next : (n : ℕ) (ok : ℕ → Bool) (f : ℕ → View) → mergeAll (n + 1) ok f ≡ merge (mergeAll n ok f) (cond (ok n) (f n) Nothing)
-unfolding mergeAll
-mergeAll-next n ok f = rw (add-one n)

@@ -1,5 +1,8 @@
 use mathlib.Core.Path.{refl, sym, _∙_}
 use borrow.Author.Needs.{needs}
+use Rattle.book.specs.Cells.{_⟨_≔_⟩, ReadSet, ReadValue}
+use Rattle.room.specs.Layout.{store}
+use Rattle.room.specs.Bulk.{keep}
 use Rattle.sessions.proofs.told.Statement.{statement}
 use Rattle.sessions.proofs.told.Tie as tie
 
@@ -9,7 +12,7 @@ told-spec =
     (tie.spec
     (λ c. search needs)
     (λ c. search needs)
-    (λ c. (search needs, refl, rw (c .enum-told .given .1) ?))
+    (λ c. (search needs, refl, rw (c .enum-told .given .1) (let a = c .before .before .before .args in let σ = store (a .room .now) in sym (keep (σ ⟨ ReadSet (a .s) ≔ σ (ReadSet (a .s)) ⟩) (ReadValue (a .s) (a .k)) ∙ keep σ (ReadSet (a .s))))))
     (λ c κs. search needs)
     (λ c. search needs)
     (λ c. (search needs, rw (c .before .before .before .before .before .view .given .1), c .before .before .enter .ensures .1)))

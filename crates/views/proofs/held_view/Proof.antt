@@ -1,11 +1,11 @@
 use Prim.Native.Nat.{_≤_, _-_}
 use mathlib.Core.Bool.{_&&_}
-use mathlib.Core.Path.{_≡_, sym}
+use mathlib.Core.Path.{_≡_, refl}
 use native.Mathlib.Omega.{arith}
 use borrow.Author.Needs.{needs}
 use Rattle.book.specs.Views.{mergeAll, version, versionsOf, wroteBy}
 use Rattle.room.specs.Layout.{store}
-use Rattle.views.specs.Merging.{mergeAll-none, mergeAll-next}
+use Rattle.room.specs.Loops.{mergeAll-next}
 use Rattle.views.proofs.held_view.Statement.{statement}
 use Rattle.views.proofs.held_view.Tie as tie
 
@@ -16,12 +16,16 @@ Inv-loop room h k s p sofar₀ t₀ sofar t =
 abbrev μ-loop : tie.MeasureT-loop
 μ-loop room h k s p sofar₀ t₀ sofar t = 64 - t
 
+loop-holds : tie.Need-loop-holds Inv-loop μ-loop
+unfolding mergeAll
+loop-holds c = (search needs, refl)
+
 pub held-view-spec : {M : Type 1} → statement M
 held-view-spec =
     tie.close
     (tie.spec Inv-loop μ-loop
     (λ c κs. search needs)
-    (λ c. (search needs, sym (mergeAll-none _ _)))
+    loop-holds
     (λ c κs. search needs)
     (λ c. search needs)
     (λ c. search needs)
