@@ -1,20 +1,25 @@
 -- Step 5 in its parts: the request, its values, its states.
 use Prim.Native.Nat.{ℕ, suc, _+_, _%_, _≤_, _<_}
-use mathlib.Core.Bool.{true, cond, _&&_}
+use mathlib.Core.Bool.{true, false, cond, _&&_}
 use mathlib.Core.Path.{_≡_, ap, _∙_}
 use native.Mathlib.Nat.{mod-lt}
 use native.Mathlib.Omega.{arith}
-use lib.Dec.{eqb, ltb}
-use borrow.Author.Tests.{eqb-true, ltb-true, lt-ltb}
-use Rattle.book.specs.Sizes.{partitionsMax, keys}
-use Rattle.book.specs.Cells.{Cell, Store, _⟨_≔_⟩, each2, Transactions, HomeHall, Status, committing, WriteValue, By, From, KeySet, Value, State, asked}
+use lib.Dec.{eqb, ltb, leb}
+use borrow.Author.Tests.{eqb-true, ltb-true, leb-false, ne-eqb, lt-ltb}
+use Rattle.book.specs.Sizes.{partitionsMax, keys, placesMax}
+use Rattle.book.specs.Cells.{Cell, Store, _⟨_≔_⟩, each2, Transactions, HomeHall, Status, committing, WriteSet, WriteValue, By, From, KeySet, Value, State, asked}
 use Rattle.book.specs.Cases.{and-true}
 use Rattle.book.specs.Folds.{any-true}
 use Rattle.book.specs.Sets.{member}
 use Rattle.book.specs.Servers.{partitionOf}
-use Rattle.book.specs.SessionSteps.{touches}
+use Rattle.book.specs.SessionSteps.{touches, hasWrites}
 use Rattle.room.specs.Bulk.{row2j, upTo, begin, ahead, puts, next, done}
 use Rattle.views.specs.Merging.{Parted}
+
+-- an end that is not turned away for want of a place has one
+pub place-left : (σ : Store) (s : ℕ) → (hasWrites σ s && leb placesMax (σ Transactions)) ≡ false → (σ (WriteSet s) ≡ 0 → ⊥)
+    → σ Transactions < placesMax
+place-left σ s e n = leb-false placesMax (σ Transactions) (rw (ne-eqb (σ (WriteSet s)) 0 n) at e)
 
 -- the request of session s with the keys m, at place t
 abbrev pub requested : Store → ℕ → ℕ → ℕ → Store
