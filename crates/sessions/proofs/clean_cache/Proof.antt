@@ -3,6 +3,7 @@ use mathlib.Core.Path.{_≡_, refl, ap, sym, _∙_}
 use native.Mathlib.Omega.{arith}
 use lib.ListN.{length}
 use borrow.Author.Needs.{needs}
+use Rattle.book.specs.Sizes.{keys}
 use Rattle.book.specs.Cells.{Store}
 use Rattle.room.specs.Layout.{store}
 use Rattle.sessions.specs.Starting.{cleanedAt, cleanedTo, cleaned-none, cleaned-next, cleaned-done}
@@ -11,10 +12,10 @@ use Rattle.sessions.proofs.clean_cache.Tie as tie
 
 abbrev Inv-loop : tie.InvT-loop
 Inv-loop room₀ s snapshot k₀ room k =
-    (k ≤ 32) × (length room ≡ length room₀) × (store room ≡ cleanedTo k (store room₀) s (snapshot .0))
+    (k ≤ keys) × (length room ≡ length room₀) × (store room ≡ cleanedTo k (store room₀) s (snapshot .0))
 
 abbrev μ-loop : tie.MeasureT-loop
-μ-loop room₀ s snapshot k₀ room k = 32 - k
+μ-loop room₀ s snapshot k₀ room k = keys - k
 
 pub clean-cache-spec : {M : Type 1} → statement M
 clean-cache-spec =
@@ -37,5 +38,5 @@ clean-cache-spec =
     (λ c. search needs)
     (λ c. let a = c .before .before .before .args in
     let i = c .before .loop in
-    let e : i .k ≡ 32 = omega arith in
+    let e : i .k ≡ keys = omega arith in
     (search needs, rw e at (i .inv .2) ∙ cleaned-done (a .room .now) (a .s) (a .snapshot .0))))
