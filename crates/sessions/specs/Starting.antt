@@ -24,6 +24,7 @@ begun σ s h p S =
 abbrev pub cleanedAt : ℕ → Store → ℕ → ℕ → Store
 cleanedAt k σ s S = σ ⟨ CacheTime s k ≔ cond (leb (σ (CacheTime s k)) S) 0 (σ (CacheTime s k)) ⟩
 
+-- the cache times of session s, by key; and which of them go
 abbrev times : ℕ → Row
 times s = row2j (CacheTime 0 0 .kind) s
 
@@ -36,15 +37,21 @@ cleanedTo n σ s S = upTo (times s) (goes σ S) (λ d. 0) n σ
 abbrev pub cleaned : Store → ℕ → ℕ → Store
 cleaned σ s S = each2 CacheTime (λ a k. eqb s a && leb (σ (CacheTime a k)) S) (λ a k. 0) σ
 
+-- no key: nothing is done
 pub cleaned-none : (σ : Store) (s S : ℕ) → cleanedTo 0 σ s S ≡ σ
 cleaned-none σ s S = begin (times s) (goes σ S) (λ d. 0) σ
 
-pub cleaned-next : (n : ℕ) (σ : Store) (s S : ℕ) → cleanedAt n (cleanedTo n σ s S) s S ≡ cleanedTo (n + 1) σ s S
-cleaned-next n σ s S =
-    ap (λ (x : ℕ). cleanedTo n σ s S ⟨ CacheTime s n ≔ cond (leb x S) 0 x ⟩)
+-- a round of the loop is one key more
+pub cleaned-next : {ρ τ : Store} (n : ℕ) (σ : Store) (s S : ℕ) → ρ ≡ cleanedAt n τ s S → τ ≡ cleanedTo n σ s S
+    → ρ ≡ cleanedTo (n + 1) σ s S
+cleaned-next n σ s S q e =
+    q
+    ∙ ap (λ (ρ : Store). cleanedAt n ρ s S) e
+    ∙ ap (λ (x : ℕ). cleanedTo n σ s S ⟨ CacheTime s n ≔ cond (leb x S) 0 x ⟩)
     (ahead (times s) (goes σ S) (λ d. 0) n n σ (omega arith))
     ∙ next (times s) (goes σ S) (λ d. 0) n σ
 
+-- all keys: a time past the last key is 0 as it was
 pub cleaned-done : (r : List ℕ) (s S : ℕ) → cleanedTo keys (store r) s S ≡ cleaned (store r) s S
 cleaned-done r s S =
     done (times s) (goes (store r) S) (λ d. 0) keys (store r)

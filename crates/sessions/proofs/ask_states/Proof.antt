@@ -1,15 +1,14 @@
 use Prim.Native.Nat.{_≤_, _-_}
-use mathlib.Core.Path.{_≡_, refl, ap, sym, _∙_}
+use mathlib.Core.Path.{_≡_, refl, sym, _∙_}
 use native.Mathlib.Omega.{arith}
 use lib.ListN.{length}
 use borrow.Author.Needs.{needs}
 use Rattle.book.specs.Sizes.{partitionsMax}
-use Rattle.book.specs.Cells.{Store}
 use Rattle.book.specs.Folds.{count}
 use Rattle.book.specs.SessionSteps.{touches}
 use Rattle.room.specs.Layout.{store}
 use Rattle.room.specs.Loops.{count-next}
-use Rattle.sessions.specs.Asking.{askedAt, askedTo, asked-none, asked-next, asked-done}
+use Rattle.sessions.specs.Asking.{askedTo, asked-none, asked-next, asked-done}
 use Rattle.sessions.proofs.ask_states.Statement.{statement}
 use Rattle.sessions.proofs.ask_states.Tie as tie
 
@@ -45,9 +44,7 @@ ask-states-spec =
       search needs,
       e .2,
       rw (count-next, ← (i .inv .3)) (rw (i .inv .4) at (e .1)),
-      e .3
-          ∙ ap (λ (τ : Store). askedAt (i .p) τ (a .t) (a .m)) (i .inv .4)
-          ∙ asked-next (i .p) (store (a .room .now)) (a .t) (a .m),
+      asked-next (i .p) (store (a .room .now)) (a .t) (a .m) (e .3) (i .inv .4),
     ))
     (λ c. search needs)
     (λ c. let a = c .before .before .before .args in

@@ -1,12 +1,11 @@
 use Prim.Native.Nat.{_≤_, _-_}
-use mathlib.Core.Path.{_≡_, refl, ap, sym, _∙_}
+use mathlib.Core.Path.{_≡_, refl, sym, _∙_}
 use native.Mathlib.Omega.{arith}
 use lib.ListN.{length}
 use borrow.Author.Needs.{needs}
 use Rattle.book.specs.Sizes.{keys}
-use Rattle.book.specs.Cells.{Store}
 use Rattle.room.specs.Layout.{store}
-use Rattle.sessions.specs.Asking.{copiedAt, copiedTo, copied-none, copied-next, copied-done}
+use Rattle.sessions.specs.Asking.{copiedTo, copied-none, copied-next, copied-done}
 use Rattle.sessions.proofs.copy_values.Statement.{statement}
 use Rattle.sessions.proofs.copy_values.Tie as tie
 
@@ -31,9 +30,7 @@ copy-values-spec =
     let i = c .before .before .before .before .before .loop in (
       search needs,
       search needs,
-      c .before .before .copy-value .ensures .1
-          ∙ ap (λ (τ : Store). copiedAt (i .k) τ (a .s) (a .t)) (i .inv .2)
-          ∙ copied-next (i .k) (store (a .room .now)) (a .s) (a .t) (omega arith),
+      copied-next (i .k) (store (a .room .now)) (a .s) (a .t) (omega arith) (c .before .before .copy-value .ensures .1) (i .inv .2),
     ))
     (λ c. search needs)
     (λ c. let a = c .before .before .before .args in
