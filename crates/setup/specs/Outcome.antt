@@ -13,7 +13,7 @@ use Rattle.book.specs.Setup.{goodSetup, firstStore, setupRefusal, servers, setu
 use Rattle.room.specs.Layout.{size}
 use Rattle.room.specs.Lay.{lay}
 
--- number 1: "a lent room of another size"
+-- number 1: "room of wrong length"
 abbrev pub setupGiven : List ℕ → List ℕ → List ℕ → Answer
 setupGiven r masks homes = cond (eqb (length r) size) (setupAnswer masks homes) (Refused 1)
 

@@ -2,7 +2,7 @@
 ghost use mathlib.Core.Path.{_≡_};
 ghost use Prim.Native.Nat.{ℕ, _≤_, _<_};
 ghost use lib.ListN.{length, getD};
-ghost use Rattle.book.specs.Sizes.{hallsMax, partitionsMax, sessionsMax};
+ghost use Rattle.book.specs.Sizes.{partitionsMax, sessionsMax};
 ghost use Rattle.book.specs.Cells.{Cell, cell};
 ghost use Rattle.book.specs.Folds.{count};
 ghost use Rattle.book.specs.Servers.{holds};

@@ -1,5 +1,5 @@
 use Prim.Native.Nat.{_≤_, _-_}
-use mathlib.Core.Path.{_≡_, sym, _∙_}
+use mathlib.Core.Path.{_≡_}
 use native.Mathlib.Omega.{arith}
 use lib.ListN.{length, length-set}
 use lib.Seq.{ext-getD}
