@@ -1,8 +1,11 @@
 ghost use mathlib.Core.Path.{_≡_};
+ghost use mathlib.Core.Bool.{cond};
 ghost use Prim.Native.Nat.{_<_};
 ghost use lib.ListN.{length};
 ghost use Rattle.book.specs.Cells.{cell, _⟨_≔_⟩};
 ghost use Rattle.room.specs.Layout.{size, stepI, stepJ, stepK, at, Within, store};
+
+pub mod stretch;
 
 // The kinds of cell, as the book numbers them.
 pub const HALLS: usize = 0;
@@ -180,4 +183,23 @@ pub fn put(room: &mut [u64], kind: usize, i: usize, j: usize, k: usize, l: usize
     ensures { λ r. ⌜ (length (now (room .exit)) ≡ size) × (store (now (room .exit)) ≡ store (now (room .entry)) ⟨ cell kind i j k l ≔ v ⟩) ⌝ }
 {
     room[place(kind, i, j, k, l)] = v;
+}
+
+// A round of a loop over cells: the cell is put, or left as it is.
+pub fn put_if(
+    room: &mut [u64],
+    test: bool,
+    kind: usize,
+    i: usize,
+    j: usize,
+    k: usize,
+    l: usize,
+    v: u64,
+)
+    requires { ⌜ (length (now room) ≡ size) × Within (cell kind i j k l) ⌝ }
+    ensures { λ r. ⌜ (length (now (room .exit)) ≡ size) × (store (now (room .exit)) ≡ store (now (room .entry)) ⟨ cell kind i j k l ≔ cond test v (store (now (room .entry)) (cell kind i j k l)) ⟩) ⌝ }
+{
+    if test {
+        put(room, kind, i, j, k, l, v);
+    }
 }
