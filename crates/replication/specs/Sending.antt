@@ -1,0 +1,70 @@
+-- "One message with these and the version clock goes to each other holder": hall by hall, and all of them.
+use Prim.Native.Nat.{ℕ, suc, _+_, _≤_}
+use mathlib.Core.Bool.{Bool, true, false, cond, _&&_, not, true≢false}
+use mathlib.Core.Path.{_≡_, refl, sym, ap, _∙_}
+use mathlib.Core.List.{List}
+use native.Mathlib.Omega.{arith}
+use lib.Dec.{eqb}
+use Rattle.book.specs.Sizes.{hallsMax}
+use Rattle.book.specs.Cells.{Cell, Store, _⟨_≔_⟩, each3, each4, Waiting, ClockSent, Carries}
+use Rattle.book.specs.Cases.{by-test}
+use Rattle.book.specs.ReplicationSteps.{sendsTo, outgoing, nextSlot}
+use Rattle.room.specs.Layout.{store}
+use Rattle.room.specs.Bulk.{Row, row3i, row4i, upTo, upd, swap, begin, ahead, puts, skips, done}
+use Rattle.servers.specs.Holders.{none-beyond}
+use Rattle.replication.specs.Safe.{Channel}
+
+-- the channel from server (h, p) to hall g with a message more: the clock c and the set m
+abbrev pub sent : Store → ℕ → ℕ → ℕ → ℕ → ℕ → Store
+sent σ h p g c m =
+    σ ⟨ ClockSent g p h (nextSlot σ g p h) ≔ c ⟩
+    ⟨ Carries g p h (nextSlot σ g p h) ≔ m ⟩
+    ⟨ Waiting g p h ≔ suc (σ (Waiting g p h)) ⟩
+
+-- where it has one
+abbrev pub sentIf : Store → ℕ → ℕ → ℕ → ℕ → ℕ → Store
+sentIf σ h p g c m = cond (sendsTo σ h p g) (sent σ h p g c m) σ
+
+-- the store τ with every message that server (h, p) sends where the store is σ
+abbrev pub messages : Store → ℕ → ℕ → ℕ → ℕ → Store → Store
+messages σ h p c m τ =
+    each4 ClockSent (λ g q f n. outgoing σ h p g q f && eqb (nextSlot σ g q f) n) (λ g q f n. c)
+    (each4 Carries (λ g q f n. outgoing σ h p g q f && eqb (nextSlot σ g q f) n) (λ g q f n. m)
+    (each3 Waiting (outgoing σ h p) (λ g q f. suc (σ (Waiting g q f))) τ))
+
+module _ (σ : Store) (h p c m : ℕ) where
+  abbrev to : Cell → Bool
+  to d = sendsTo σ h p (d .i)
+
+  abbrev clocks : ℕ → Store → Store
+  clocks n τ = upTo (row4i 30 p h (nextSlot σ)) to (λ d. c) n τ
+
+  abbrev sets : ℕ → Store → Store
+  sets n τ = upTo (row4i 31 p h (nextSlot σ)) to (λ d. m) n τ
+
+  abbrev counts : ℕ → Store → Store
+  counts n τ = upTo (row3i 29 p h) to (λ d. suc (σ (Waiting (d .i) (d .j) (d .k)))) n τ
+
+  -- the messages to the first n halls
+  abbrev pub sentBelow : ℕ → Store
+  sentBelow n = clocks n (sets n (counts n σ))
+
+  pub sent-none : σ ≡ sentBelow 0
+  sent-none =
+      sym
+      (begin (row4i 30 p h (nextSlot σ)) to (λ d. c) (sets 0 (counts 0 σ))
+      ∙ begin (row4i 31 p h (nextSlot σ)) to (λ d. m) (counts 0 σ)
+      ∙ begin (row3i 29 p h) to (λ d. suc (σ (Waiting (d .i) (d .j) (d .k)))) σ)
+
+  -- a channel that has not had its turn
+  same-waiting : (n : ℕ) → sentBelow n (Waiting n p h) ≡ σ (Waiting n p h)
+  same-waiting n = ahead (row3i 29 p h) to (λ d. suc (σ (Waiting (d .i) (d .j) (d .k)))) n n σ (omega arith)
+
+  pub channel-ahead : (n : ℕ) → Channel σ n p h → Channel (sentBelow n) n p h
+  channel-ahead n C = record { first = C .first; waiting = rw (same-waiting n) (C .waiting) }
+
+  sends : (n : ℕ) → sendsTo σ h p n ≡ true → sent (sentBelow n) h p n c m ≡ sentBelow (n + 1)
+  sends n e = ?
+
+  pub sent-next : (n : ℕ) → sentIf (sentBelow n) h p n c m ≡ sentBelow (n + 1)
+  sent-next n = by-test (sendsTo σ h p n) (λ e. rw e (sends n e)) (λ e. rw e ?)
