@@ -5,40 +5,9 @@ use mathlib.Core.Path.{_≡_, refl, sym, ap, _∙_}
 use native.Mathlib.Omega.{arith}
 use lib.Dec.{eqb, ltb}
 use borrow.Author.Tests.{ltb-true, ltb-false, lt-ltb, le-ltb}
-use Rattle.book.specs.Cells.{Cell, cell, Store, same, _⟨_≔_⟩}
+use Rattle.book.specs.Cells.{Cell, cell, Store, _⟨_≔_⟩}
 use Rattle.book.specs.Cases.{by-test, by-eq, eqb-refl}
-use Rattle.room.specs.Words.{one-cell}
-
--- whether d is the cell c
-abbrev pub is : Cell → Cell → Bool
-is c d = eqb (c .kind) (d .kind) && same c d
-
-pub is-own : (c : Cell) → is c c ≡ true
-is-own c = simp eqb-refl
-
--- the store with v's numbers in the cells that pass: what `each1` to `each4`, and a single update, come to
-abbrev pub bulk : (Cell → Bool) → (Cell → ℕ) → Store → Store
-bulk b v σ = λ d. cond (b d) (v d) (σ d)
-
--- a cell that is given what it has
-pub keep : (σ : Store) (c : Cell) → σ ⟨ c ≔ σ c ⟩ ≡ σ
-keep σ c = λ x d. kept d x where
-  kept : (d : Cell) → cond (is c d) (σ c) (σ d) ≡ σ d
-  kept d = by-test (is c d) (λ e. rw e (ap σ (one-cell c d e))) (λ e. rw e)
-
--- the same update of equal stores
-pub upd : {σ τ : Store} (c : Cell) (v : ℕ) → σ ≡ τ → σ ⟨ c ≔ v ⟩ ≡ τ ⟨ c ≔ v ⟩
-upd c v e = ap (λ (s : Store). s ⟨ c ≔ v ⟩) e
-
--- a cell that an update does not write may be put before or after it
-pub swap : (b : Cell → Bool) (v : Cell → ℕ) (σ : Store) (c : Cell) (x : ℕ) → b c ≡ false
-    → (bulk b v σ) ⟨ c ≔ x ⟩ ≡ bulk b v (σ ⟨ c ≔ x ⟩)
-swap b v σ c x f = λ y d. swapped d y where
-  swapped : (d : Cell) → cond (is c d) x (cond (b d) (v d) (σ d)) ≡ cond (b d) (v d) (cond (is c d) x (σ d))
-  swapped d =
-      by-test (is c d)
-      (λ e. let q : b d ≡ false = rw (one-cell c d e) at f in rw (e, q))
-      (λ e. rw e)
+use Rattle.room.specs.Updates.{is, is-own, one-cell, bulk, keep}
 
 lt-next : (x n : ℕ) → (x ≡ n → ⊥) → ltb x (n + 1) ≡ ltb x n
 lt-next x n q =

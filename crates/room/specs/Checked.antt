@@ -3,12 +3,13 @@ use Prim.Native.Nat.{ℕ}
 use mathlib.Core.Bool.{Bool, true, _&&_}
 use mathlib.Core.Path.{_≡_, refl}
 use lib.Dec.{eqb, ltb}
-use Rattle.book.specs.Cells.{Cell, cell, same}
+use Rattle.book.specs.Cells.{Cell, cell}
 use Rattle.book.specs.Folds.{all}
+use Rattle.room.specs.Updates.{is}
 use Rattle.room.specs.Layout.{size, kinds, countI, countJ, countK, countL, at, valid, lastKind, cellAt}
 
 abbrev pub found : Cell → Bool
-found c = let d = cellAt (at c) in ltb (at c) size && (eqb (d .kind) (c .kind) && same d c)
+found c = let d = cellAt (at c) in ltb (at c) size && is d c
 
 pub each-cell :
     all kinds

@@ -1,24 +1,18 @@
 -- Each cell of the room has a word of its own, and each word is a cell's. So one word set is one cell set.
 use Prim.Native.Nat.{ℕ, _<_}
-use mathlib.Core.Bool.{true, false, _&&_, true≢false}
+use mathlib.Core.Bool.{true, false, true≢false}
 use mathlib.Core.Path.{_≡_, sym, ap, _∙_}
 use mathlib.Core.List.{List}
 use lib.Dec.{eqb, ltb}
 use lib.ListN.{length, getD, set}
 use lib.Seq.{getD-set-same, getD-set-other}
 use borrow.Author.Tests.{ltb-true, eqb-true, lt-ltb}
-use Rattle.book.specs.Cells.{Cell, same, _⟨_≔_⟩}
-use Rattle.book.specs.Cases.{by-test, and-true, same-cell, eqb-refl}
+use Rattle.book.specs.Cells.{Cell, _⟨_≔_⟩}
+use Rattle.book.specs.Cases.{by-test, and-true}
 use Rattle.book.specs.Folds.{all-at}
+use Rattle.room.specs.Updates.{is, is-own, one-cell}
 use Rattle.room.specs.Layout.{size, kinds, countI, countJ, countK, countL, at, Within, valid, store, cellAt}
 use Rattle.room.specs.Checked.{found, each-cell, named, each-word}
-
--- the test of the update: of one kind, and the same indices
-pub one-cell : (c d : Cell) → (eqb (c .kind) (d .kind) && same c d) ≡ true → c ≡ d
-one-cell c d e =
-    let a = and-true (eqb (c .kind) (d .kind)) _ e in
-    let s = same-cell c d (a .1) in
-    λ x. record { kind = eqb-true (c .kind) (d .kind) (a .0) x; i = s .i x; j = s .j x; k = s .k x; l = s .l x }
 
 pub within : (c : Cell) → Within c → valid c ≡ true
 unfolding valid
@@ -74,20 +68,20 @@ unfolding store
 store-get r c h = rw (within c h)
 
 module _ (r : List ℕ) (c d : Cell) (v : ℕ) (hl : length r ≡ size) (hc : Within c) where
-  other : (eqb (c .kind) (d .kind) && same c d) ≡ false → store (set r (at c) v) d ≡ store r d
+  other : is c d ≡ false → store (set r (at c) v) d ≡ store r d
   unfolding store
   other e =
       by-test (valid d)
       (λ h. rw h
       (getD-set-other r (at c) (at d) v 0
       (λ q. let p = distinct c d (within c hc) h (sym q) in
-      true≢false (sym (simp eqb-refl) ∙ rw (← p) at e))))
+      true≢false (sym (is-own c) ∙ rw (← p) at e))))
       (λ h. rw h)
 
   either : store (set r (at c) v) d ≡ (store r ⟨ c ≔ v ⟩) d
   unfolding store
   either =
-      by-test (eqb (c .kind) (d .kind) && same c d)
+      by-test (is c d)
       (λ e. rw (e, ← (one-cell c d e), within c hc) (getD-set-same r (at c) v 0 (rw hl (within-lt c hc))))
       (λ e. rw e (other e))
 

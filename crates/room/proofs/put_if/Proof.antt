@@ -2,7 +2,7 @@ use mathlib.Core.Path.{sym}
 use borrow.Author.Needs.{needs}
 use Rattle.book.specs.Cells.{cell}
 use Rattle.room.specs.Layout.{store}
-use Rattle.room.specs.Bulk.{keep}
+use Rattle.room.specs.Updates.{keep}
 use Rattle.room.proofs.put_if.Statement.{statement}
 use Rattle.room.proofs.put_if.Tie as tie
 
