@@ -4,7 +4,7 @@ use mathlib.Core.Path.{_≡_, _∙_}
 use Rattle.book.specs.declared.Clock.{Clock}
 use Rattle.book.specs.Cells.{Store, _⟨_≔_⟩, Reading, Hybrid, Entry}
 use Rattle.book.specs.CommitSteps.{proposedTime, committedTime}
-use Rattle.clocks.specs.Updates.{keep}
+use Rattle.room.specs.Updates.{keep}
 
 abbrev pub clock : ℕ → ℕ → ℕ → Clock
 clock x y z = record { reading = record { 0 = x }; hybrid = record { 0 = y }; version = record { 0 = z } }
@@ -28,12 +28,17 @@ proposedClock c last S =
 abbrev pub committedClock : Clock → ℕ → Clock
 committedClock c time = clock (c .reading .0) (committedTime (c .hybrid .0) time (c .reading .0)) (c .version .0)
 
-module _ (σ : Store) (h p v : ℕ) where
-  -- a clock put back with another reading alone, and with another hybrid clock alone
-  pub reading-alone : withClock σ h p (clock v (σ (Hybrid h p)) (σ (Entry h p h))) ≡ σ ⟨ Reading h p ≔ v ⟩
-  reading-alone =
-      let τ : Store = σ ⟨ Reading h p ≔ v ⟩ in keep (τ ⟨ Hybrid h p ≔ τ (Hybrid h p) ⟩) (Entry h p h) ∙ keep τ (Hybrid h p)
+module _ (σ : Store) (h p : ℕ) (c : Clock) where
+  -- a clock that is put back with the hybrid clock and the version clock that it had
+  pub reading-alone : c .hybrid .0 ≡ σ (Hybrid h p) → c .version .0 ≡ σ (Entry h p h)
+      → withClock σ h p c ≡ σ ⟨ Reading h p ≔ c .reading .0 ⟩
+  reading-alone e f =
+      let τ : Store = σ ⟨ Reading h p ≔ c .reading .0 ⟩ in
+      rw (e, f) (keep (τ ⟨ Hybrid h p ≔ τ (Hybrid h p) ⟩) (Entry h p h) ∙ keep τ (Hybrid h p))
 
-  pub hybrid-alone : withClock σ h p (clock (σ (Reading h p)) v (σ (Entry h p h))) ≡ σ ⟨ Hybrid h p ≔ v ⟩
-  hybrid-alone =
-      keep (σ ⟨ Reading h p ≔ σ (Reading h p) ⟩ ⟨ Hybrid h p ≔ v ⟩) (Entry h p h) ∙ rw (keep σ (Reading h p))
+  -- and with the reading and the version clock that it had
+  pub hybrid-alone : c .reading .0 ≡ σ (Reading h p) → c .version .0 ≡ σ (Entry h p h)
+      → withClock σ h p c ≡ σ ⟨ Hybrid h p ≔ c .hybrid .0 ⟩
+  hybrid-alone e f =
+      rw (e, f)
+      (keep (σ ⟨ Reading h p ≔ σ (Reading h p) ⟩ ⟨ Hybrid h p ≔ c .hybrid .0 ⟩) (Entry h p h) ∙ rw (keep σ (Reading h p)))

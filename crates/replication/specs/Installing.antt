@@ -5,7 +5,7 @@ use mathlib.Core.Path.{_≡_, refl}
 use mathlib.Core.List.{List}
 use native.Mathlib.Omega.{arith}
 use lib.Dec.{eqb, ltb, leb}
-use borrow.Author.Tests.{lt-ltb, le-ltb}
+use borrow.Author.Tests.{ltb-false, lt-ltb}
 use Rattle.book.specs.Sizes.{placesMax}
 use Rattle.book.specs.Cells.{Store, each2, CommitTime, State, waiting, installed}
 use Rattle.book.specs.Cases.{by-test}
@@ -53,4 +53,4 @@ module _ (r : List ℕ) (h p : ℕ) where
       rw (member-setOf placesMax (installs (store r) h p) t)
       (by-test (ltb t placesMax)
       (λ e. rw e)
-      (λ e. rw e ?))
+      (λ e. rw (e, none-beyond t (ltb-false t placesMax e))))

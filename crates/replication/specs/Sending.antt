@@ -10,7 +10,8 @@ use Rattle.book.specs.Cells.{Cell, Store, _⟨_≔_⟩, each3, each4, Waiting, 
 use Rattle.book.specs.Cases.{by-test}
 use Rattle.book.specs.ReplicationSteps.{sendsTo, outgoing, nextSlot}
 use Rattle.room.specs.Layout.{store}
-use Rattle.room.specs.Bulk.{Row, row3i, row4i, upTo, upd, swap, begin, ahead, puts, skips, done}
+use Rattle.room.specs.Updates.{bulk, upd, commute}
+use Rattle.room.specs.Bulk.{Row, row3i, row4i, upTo, begin, ahead, puts, skips, done}
 use Rattle.servers.specs.Holders.{none-beyond}
 use Rattle.replication.specs.Safe.{Channel}
 
@@ -21,7 +22,7 @@ sent σ h p g c m =
     ⟨ Carries g p h (nextSlot σ g p h) ≔ m ⟩
     ⟨ Waiting g p h ≔ suc (σ (Waiting g p h)) ⟩
 
--- where it has one
+-- where one is sent
 abbrev pub sentIf : Store → ℕ → ℕ → ℕ → ℕ → ℕ → Store
 sentIf σ h p g c m = cond (sendsTo σ h p g) (sent σ h p g c m) σ
 
@@ -32,18 +33,34 @@ messages σ h p c m τ =
     (each4 Carries (λ g q f n. outgoing σ h p g q f && eqb (nextSlot σ g q f) n) (λ g q f n. m)
     (each3 Waiting (outgoing σ h p) (λ g q f. suc (σ (Waiting g q f))) τ))
 
+pick : {A : Type 0} (b : Bool) (x y z : A) → (b ≡ true → x ≡ z) → (b ≡ false → y ≡ z) → cond b x y ≡ z
+pick true x y z f g = f refl
+pick false x y z f g = g refl
+
 module _ (σ : Store) (h p c m : ℕ) where
   abbrev to : Cell → Bool
   to d = sendsTo σ h p (d .i)
 
+  abbrev clockRow : Row
+  clockRow = row4i 30 p h (nextSlot σ)
+
+  abbrev setRow : Row
+  setRow = row4i 31 p h (nextSlot σ)
+
+  abbrev countRow : Row
+  countRow = row3i 29 p h
+
+  abbrev oneMore : Cell → ℕ
+  oneMore d = suc (σ (Waiting (d .i) (d .j) (d .k)))
+
   abbrev clocks : ℕ → Store → Store
-  clocks n τ = upTo (row4i 30 p h (nextSlot σ)) to (λ d. c) n τ
+  clocks n τ = upTo clockRow to (λ d. c) n τ
 
   abbrev sets : ℕ → Store → Store
-  sets n τ = upTo (row4i 31 p h (nextSlot σ)) to (λ d. m) n τ
+  sets n τ = upTo setRow to (λ d. m) n τ
 
   abbrev counts : ℕ → Store → Store
-  counts n τ = upTo (row3i 29 p h) to (λ d. suc (σ (Waiting (d .i) (d .j) (d .k)))) n τ
+  counts n τ = upTo countRow to oneMore n τ
 
   -- the messages to the first n halls
   abbrev pub sentBelow : ℕ → Store
@@ -52,19 +69,35 @@ module _ (σ : Store) (h p c m : ℕ) where
   pub sent-none : σ ≡ sentBelow 0
   sent-none =
       sym
-      (begin (row4i 30 p h (nextSlot σ)) to (λ d. c) (sets 0 (counts 0 σ))
-      ∙ begin (row4i 31 p h (nextSlot σ)) to (λ d. m) (counts 0 σ)
-      ∙ begin (row3i 29 p h) to (λ d. suc (σ (Waiting (d .i) (d .j) (d .k)))) σ)
+      (begin clockRow to (λ d. c) (sets 0 (counts 0 σ)) ∙ begin setRow to (λ d. m) (counts 0 σ) ∙ begin countRow to oneMore σ)
 
   -- a channel that has not had its turn
-  same-waiting : (n : ℕ) → sentBelow n (Waiting n p h) ≡ σ (Waiting n p h)
-  same-waiting n = ahead (row3i 29 p h) to (λ d. suc (σ (Waiting (d .i) (d .j) (d .k)))) n n σ (omega arith)
+  same-waiting : (n : ℕ) → counts n σ (Waiting n p h) ≡ σ (Waiting n p h)
+  same-waiting n = ahead countRow to oneMore n n σ (omega arith)
 
   pub channel-ahead : (n : ℕ) → Channel σ n p h → Channel (sentBelow n) n p h
   channel-ahead n C = record { first = C .first; waiting = rw (same-waiting n) (C .waiting) }
 
-  sends : (n : ℕ) → sendsTo σ h p n ≡ true → sent (sentBelow n) h p n c m ≡ sentBelow (n + 1)
-  sends n e = ?
+  -- the three puts of a round, each in its own row
+  sends : (n : ℕ) → sendsTo σ h p n ≡ true
+      → sentBelow n
+      ⟨ ClockSent n p h (nextSlot σ n p h) ≔ c ⟩
+      ⟨ Carries n p h (nextSlot σ n p h) ≔ m ⟩
+      ⟨ Waiting n p h ≔ suc (σ (Waiting n p h)) ⟩
+      ≡ sentBelow (n + 1)
+  sends n e =
+      let x : clocks n (sets n (counts n σ)) ⟨ ClockSent n p h (nextSlot σ n p h) ≔ c ⟩ ≡ clocks (n + 1) (sets n (counts n σ))
+              = puts clockRow to (λ d. c) n (sets n (counts n σ)) e in
+      let y : sets n (counts n σ) ⟨ Carries n p h (nextSlot σ n p h) ≔ m ⟩ ≡ sets (n + 1) (counts n σ)
+              = puts setRow to (λ d. m) n (counts n σ) e in
+      let z : counts n σ ⟨ Waiting n p h ≔ suc (σ (Waiting n p h)) ⟩ ≡ counts (n + 1) σ
+              = puts countRow to oneMore n σ e in
+      ?
+
+  skipped : (n : ℕ) → sendsTo σ h p n ≡ false → sentBelow n ≡ sentBelow (n + 1)
+  skipped n e =
+      skips clockRow to (λ d. c) n (sets n (counts n σ)) e
+      ∙ ap (clocks (n + 1)) (skips setRow to (λ d. m) n (counts n σ) e ∙ ap (sets (n + 1)) (skips countRow to oneMore n σ e))
 
   pub sent-next : (n : ℕ) → sentIf (sentBelow n) h p n c m ≡ sentBelow (n + 1)
-  sent-next n = by-test (sendsTo σ h p n) (λ e. rw e (sends n e)) (λ e. rw e ?)
+  sent-next n = pick (sendsTo σ h p n) _ _ _ (λ e. rw (same-waiting n) (sends n e)) (skipped n)

@@ -1,7 +1,7 @@
 use mathlib.Core.Path.{refl}
-use borrow.Author.Needs.{needs}
 use Rattle.room.specs.Layout.{store}
 use Rattle.clocks.specs.Clocks.{reading-alone}
+use borrow.Author.Needs.{needs}
 use Rattle.clocks.proofs.tick.Statement.{statement}
 use Rattle.clocks.proofs.tick.Tie as tie
 
@@ -13,12 +13,10 @@ tick-spec =
     (λ c κs. search needs)
     (λ c κs. search needs)
     (λ c. search needs)
-    (λ c. let back = c .before .before .put-back in
-    let taken = c .before .before .before .before .before in
-    let a = taken .before .before .before .args in (
-      back .ensures .0,
+    (λ c. let a = c .before .before .before .before .before .before .before .before .args in
+    let ticked = c .before .before .before .ticked in
+    let taken = c .before .before .before .before .before .take .ensures in (
+      c .before .before .put-back .ensures .0,
       refl,
-      rw
-          (back .ensures .1, c .before .before .before .ticked .ensures, taken .take .ensures)
-          (reading-alone (store (a .room .now)) (a .h) (a .p) (a .x .0)),
+      rw (c .before .before .put-back .ensures .1, reading-alone (store (a .room .now)) (a .h) (a .p) (ticked .result) (rw (ticked .ensures, taken)) (rw (ticked .ensures, taken)), ticked .ensures),
     )))
