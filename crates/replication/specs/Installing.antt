@@ -38,6 +38,10 @@ size-setOf ok = count-same placesMax (member (setOf placesMax ok)) ok (λ t l. r
 abbrev pub due : Store → ℕ → ℕ → ℕ → ℕ → Bool
 due σ h p v t = eqb (σ (State t p)) waiting && (eqb (writer σ t p) h && leb (σ (CommitTime t)) v)
 
+pub both-first : (a b x : Bool) → (a && (b && x)) ≡ ((a && b) && x)
+both-first true b x = refl
+both-first false b x = refl
+
 -- the set's transactions installed for p
 abbrev pub marked : ℕ → ℕ → Store → Store
 marked p m σ = each2 State (λ t q. eqb p q && (ltb t placesMax && member m t)) (λ t q. installed) σ

@@ -1,17 +1,18 @@
 -- "One message with these and the version clock goes to each other holder": hall by hall, and all of them.
-use Prim.Native.Nat.{ℕ, suc, _+_, _≤_}
-use mathlib.Core.Bool.{Bool, true, false, cond, _&&_, not, true≢false}
+use Prim.Native.Nat.{ℕ, suc, _+_}
+use mathlib.Core.Bool.{Bool, true, false, cond, _&&_, not}
 use mathlib.Core.Path.{_≡_, refl, sym, ap, _∙_}
 use mathlib.Core.List.{List}
 use native.Mathlib.Omega.{arith}
-use lib.Dec.{eqb}
+use lib.Dec.{eqb, ltb}
+use borrow.Author.Tests.{ltb-false}
 use Rattle.book.specs.Sizes.{hallsMax}
 use Rattle.book.specs.Cells.{Cell, Store, _⟨_≔_⟩, each3, each4, Waiting, ClockSent, Carries}
 use Rattle.book.specs.Cases.{by-test}
-use Rattle.book.specs.ReplicationSteps.{sendsTo, outgoing, nextSlot}
+use Rattle.book.specs.ReplicationSteps.{sendsTo, nextSlot}
 use Rattle.room.specs.Layout.{store}
-use Rattle.room.specs.Updates.{bulk, upd, commute}
-use Rattle.room.specs.Bulk.{Row, row3i, row4i, upTo, begin, ahead, puts, skips, done}
+use Rattle.room.specs.Updates.{upd, commute}
+use Rattle.room.specs.Bulk.{Row, row3i, row4i, upTo, begin, ahead, puts, skips}
 use Rattle.servers.specs.Holders.{none-beyond}
 use Rattle.replication.specs.Safe.{Channel}
 
@@ -26,12 +27,16 @@ sent σ h p g c m =
 abbrev pub sentIf : Store → ℕ → ℕ → ℕ → ℕ → ℕ → Store
 sentIf σ h p g c m = cond (sendsTo σ h p g) (sent σ h p g c m) σ
 
--- the store τ with every message that server (h, p) sends where the store is σ
+-- the store τ with a message to each hall that passes, from server (h, p), at the slots that are next in the store σ
+abbrev pub messagesTo : (ℕ → Bool) → Store → ℕ → ℕ → ℕ → ℕ → Store → Store
+messagesTo ok σ h p c m τ =
+    each4 ClockSent (λ g q f n. (eqb p q && (eqb h f && ok g)) && eqb (nextSlot σ g q f) n) (λ g q f n. c)
+    (each4 Carries (λ g q f n. (eqb p q && (eqb h f && ok g)) && eqb (nextSlot σ g q f) n) (λ g q f n. m)
+    (each3 Waiting (λ g q f. eqb p q && (eqb h f && ok g)) (λ g q f. suc (σ (Waiting g q f))) τ))
+
+-- to each that one is sent to
 abbrev pub messages : Store → ℕ → ℕ → ℕ → ℕ → Store → Store
-messages σ h p c m τ =
-    each4 ClockSent (λ g q f n. outgoing σ h p g q f && eqb (nextSlot σ g q f) n) (λ g q f n. c)
-    (each4 Carries (λ g q f n. outgoing σ h p g q f && eqb (nextSlot σ g q f) n) (λ g q f n. m)
-    (each3 Waiting (outgoing σ h p) (λ g q f. suc (σ (Waiting g q f))) τ))
+messages σ h p c m τ = messagesTo (sendsTo σ h p) σ h p c m τ
 
 pick : {A : Type 0} (b : Bool) (x y z : A) → (b ≡ true → x ≡ z) → (b ≡ false → y ≡ z) → cond b x y ≡ z
 pick true x y z f g = f refl
@@ -92,7 +97,9 @@ module _ (σ : Store) (h p c m : ℕ) where
               = puts setRow to (λ d. m) n (counts n σ) e in
       let z : counts n σ ⟨ Waiting n p h ≔ suc (σ (Waiting n p h)) ⟩ ≡ counts (n + 1) σ
               = puts countRow to oneMore n σ e in
-      ?
+      upd _ _ (upd _ _ x ∙ commute 31 30 _ _ _ _ _ refl ∙ ap (clocks (n + 1)) y)
+      ∙ commute 29 30 _ _ _ _ _ refl
+      ∙ ap (clocks (n + 1)) (commute 29 31 _ _ _ _ _ refl ∙ ap (sets (n + 1)) z)
 
   skipped : (n : ℕ) → sendsTo σ h p n ≡ false → sentBelow n ≡ sentBelow (n + 1)
   skipped n e =
@@ -101,3 +108,14 @@ module _ (σ : Store) (h p c m : ℕ) where
 
   pub sent-next : (n : ℕ) → sentIf (sentBelow n) h p n c m ≡ sentBelow (n + 1)
   sent-next n = pick (sendsTo σ h p n) _ _ _ (λ e. rw (same-waiting n) (sends n e)) (skipped n)
+
+-- a room has no hall past its last, so that is all
+module _ (r : List ℕ) (h p c m : ℕ) where
+  each-hall : (g : ℕ) → (ltb g hallsMax && sendsTo (store r) h p g) ≡ sendsTo (store r) h p g
+  each-hall g =
+      by-test (ltb g hallsMax)
+      (λ e. rw e)
+      (λ e. rw (e, none-beyond r g p (ltb-false g hallsMax e)) (by-test (eqb h g) (λ q. rw q) (λ q. rw q)))
+
+  pub sent-all : sentBelow (store r) h p c m hallsMax ≡ messages (store r) h p c m (store r)
+  sent-all = ap (λ (ok : ℕ → Bool). messagesTo ok (store r) h p c m (store r)) (λ x g. each-hall g x)
