@@ -39,15 +39,15 @@ ask-states-spec =
     (λ c. search needs)
     (λ c. let a = c .before .before .before .before .before .before .before .args in
     let i = c .before .before .before .before .before .loop in
-    let e = c .before .before .ask-state .ensures in
-    (
-    search needs,
-    search needs,
-    e .2,
-    rw (count-next, ← (i .inv .3)) (rw (i .inv .4) at (e .1)),
-    e .3
-    ∙ ap (λ (τ : Store). askedAt (i .p) τ (a .t) (a .m)) (i .inv .4)
-    ∙ asked-next (i .p) (store (a .room .now)) (a .t) (a .m)))
+    let e = c .before .before .ask-state .ensures in (
+      search needs,
+      search needs,
+      e .2,
+      rw (count-next, ← (i .inv .3)) (rw (i .inv .4) at (e .1)),
+      e .3
+          ∙ ap (λ (τ : Store). askedAt (i .p) τ (a .t) (a .m)) (i .inv .4)
+          ∙ asked-next (i .p) (store (a .room .now)) (a .t) (a .m),
+    ))
     (λ c. search needs)
     (λ c. let a = c .before .before .before .args in
     let i = c .before .loop in

@@ -27,10 +27,13 @@ clean-cache-spec =
     (λ c. search needs)
     (λ c. search needs)
     (λ c. let a = c .before .before .before .before .before .before .before .args in
-    let i = c .before .before .before .before .before .loop in
-    (search needs, search needs, c .before .before .clean .ensures .1
-    ∙ ap (λ (τ : Store). cleanedAt (i .k) τ (a .s) (a .snapshot .0)) (i .inv .2)
-    ∙ cleaned-next (i .k) (store (a .room .now)) (a .s) (a .snapshot .0)))
+    let i = c .before .before .before .before .before .loop in (
+      search needs,
+      search needs,
+      c .before .before .clean .ensures .1
+          ∙ ap (λ (τ : Store). cleanedAt (i .k) τ (a .s) (a .snapshot .0)) (i .inv .2)
+          ∙ cleaned-next (i .k) (store (a .room .now)) (a .s) (a .snapshot .0),
+    ))
     (λ c. search needs)
     (λ c. let a = c .before .before .before .args in
     let i = c .before .loop in

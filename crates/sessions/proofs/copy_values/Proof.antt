@@ -27,10 +27,13 @@ copy-values-spec =
     (λ c. search needs)
     (λ c. search needs)
     (λ c. let a = c .before .before .before .before .before .before .before .args in
-    let i = c .before .before .before .before .before .loop in
-    (search needs, search needs, c .before .before .copy-value .ensures .1
-    ∙ ap (λ (τ : Store). copiedAt (i .k) τ (a .s) (a .t)) (i .inv .2)
-    ∙ copied-next (i .k) (store (a .room .now)) (a .s) (a .t) (omega arith)))
+    let i = c .before .before .before .before .before .loop in (
+      search needs,
+      search needs,
+      c .before .before .copy-value .ensures .1
+          ∙ ap (λ (τ : Store). copiedAt (i .k) τ (a .s) (a .t)) (i .inv .2)
+          ∙ copied-next (i .k) (store (a .room .now)) (a .s) (a .t) (omega arith),
+    ))
     (λ c. search needs)
     (λ c. let a = c .before .before .before .args in
     let i = c .before .loop in
