@@ -58,12 +58,12 @@ module _ (t s x m : ℕ) where
       ∙ ap (λ (τ : Store). upTo values among v (n + 1) τ) (round times among (λ d. x) n σ)
 
   -- a set of the room's keys has none beyond them
-  beyond : (σ : Store) → m < 2 ^ keys → (i y z : ℕ) → keys ≤ i → member m i ≡ true → y ≡ z
-  beyond σ l i y z b e = absurd (true≢false (sym e ∙ member-beyond keys m i l b))
+  beyond : m < 2 ^ keys → (i y z : ℕ) → keys ≤ i → member m i ≡ true → y ≡ z
+  beyond l i y z b e = absurd (true≢false (sym e ∙ member-beyond keys m i l b))
 
   pub cached-all : (σ : Store) → m ≡ σ (KeySet t) → m < 2 ^ keys → cachedTo keys σ ≡ cached σ t s x
   cached-all σ e l =
       rw (← e)
-      (done values among (λ d. σ (Value t (d .j))) keys (timesTo keys σ) (λ i b f. beyond σ l i _ _ b f)
+      (done values among (λ d. σ (Value t (d .j))) keys (timesTo keys σ) (λ i b f. beyond l i _ _ b f)
       ∙ ap (λ (τ : Store). bulk (values .test among) (λ d. σ (Value t (d .j))) τ)
-      (done times among (λ d. x) keys σ (λ i b f. beyond σ l i _ _ b f)))
+      (done times among (λ d. x) keys σ (λ i b f. beyond l i _ _ b f)))
