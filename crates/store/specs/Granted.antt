@@ -8,16 +8,16 @@ use borrow.Author.Tests.{ltb-true, leb-true, eqb-true}
 use Rattle.book.specs.Sizes.{hallsMax, partitionsMax, sessionsMax, keys, placesMax, readingMax, timeMax}
 use Rattle.book.specs.Cells.{Store, Halls, Partitions, Sessions, Transactions, Status, idle, running, HomeHall, HomePartition, By}
 use Rattle.book.specs.Cases.{and-true, passed}
-use Rattle.book.specs.Servers.{holds, partitionOf, placeOf, writer}
+use Rattle.book.specs.Servers.{holds, partitionOf, placeOf}
 use Rattle.book.specs.SessionSteps.{hasWrites}
 use Rattle.book.specs.Refusals.{sessionThere, transactionThere, unused, tickRefusal, startRefusal, readRefusal, writeRefusal, endRefusal, prepareRefusal, decideRefusal, commitRefusal, installRefusal, deliverRefusal, serverRefusal, shareRefusal}
 use Rattle.book.specs.WellFormed.{wellFormed, timeBound}
 use Rattle.theorems.specs.Step.{asked-for}
 use Rattle.theorems.specs.Tally.{prepared-most}
-use Rattle.theorems.specs.Formed.{Formed, Times, formed, layout, server-small, writer-small}
+use Rattle.theorems.specs.Formed.{Formed, Times, formed, layout, server-small}
 use Rattle.theorems.specs.KeptSteps.{times-le}
 use Rattle.ladders.specs.Sized.{Sized, session-in, transaction-in}
-use Rattle.views.specs.Merging.{Parted}
+use Rattle.views.specs.Partitions.{Parted}
 use Rattle.sessions.specs.Starting.{Homed}
 use Rattle.commits.specs.Safe.{Numbered, Coordinated, Timely, Writing}
 use Rattle.replication.specs.Safe.{Coordinated as AllCoordinated, Channel, Timely as AllTimely, Outgoing}
@@ -100,7 +100,7 @@ module _ (σ : Store) (w : wellFormed σ ≡ true) where
   place n N = let a = N .first in let b = N .last in omega arith
 
   pub prepare-in : (n p z : ℕ) → prepareRefusal σ n p z ≡ 0
-      → Numbered n × (p < partitionsMax) × Coordinated σ (placeOf n) × Timely σ (placeOf n) (writer σ (placeOf n) p) p
+      → Numbered n × (p < partitionsMax) × Coordinated σ (placeOf n) × Timely σ (placeOf n) p
   prepare-in n p z e =
       let N = number n _ _ e in
       let P = partition n p _ _ e in
@@ -116,7 +116,7 @@ module _ (σ : Store) (w : wellFormed σ ≡ true) where
           session = s;
           last = T .last (σ (By (placeOf n))) s;
           snapshot = T .snapshot (σ (By (placeOf n))) s;
-          hybrid = T .hybrid (writer σ (placeOf n) p) p (writer-small σ facts (placeOf n) p l) P;
+          hybrid = λ h i. T .hybrid h p i P;
         },
       )
 
