@@ -117,3 +117,10 @@ cellAt w =
     let y = x % stepI n in
     let z = y % stepJ n in
     cell n (x / stepI n) (y / stepJ n) (z / stepK n) (z % stepK n)
+
+-- the words of a server's stretch, and the first word of server (h, p)'s
+abbrev pub stretch : ℕ
+stretch = 71
+
+abbrev pub start : ℕ → ℕ → ℕ
+start h p = 8 + stretch * (partitionsMax * h + p)

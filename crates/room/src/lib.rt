@@ -5,6 +5,8 @@ ghost use lib.ListN.{length};
 ghost use Rattle.book.specs.Cells.{cell, _⟨_≔_⟩};
 ghost use Rattle.room.specs.Layout.{size, stepI, stepJ, stepK, at, Within, store};
 
+pub mod stretch;
+
 // The kinds of cell, as the book numbers them.
 pub const HALLS: usize = 0;
 
