@@ -1,7 +1,7 @@
 -- "Each server writes only its own stretch of the lent room for clocks, vector and versions held": what is written to the stretch, lent on
 -- as a part of the room, said of the room's cells.
 use Prim.Native.Nat.{ℕ, _+_, _-_, _≤_, _<_}
-use mathlib.Core.Bool.{Bool, true, cond, _&&_, true≢false}
+use mathlib.Core.Bool.{Bool, true, false, cond, _&&_, true≢false}
 use mathlib.Core.Path.{_≡_, sym, ap, _∙_}
 use mathlib.Core.List.{List, _++_}
 use native.Mathlib.Omega.{arith}
@@ -14,7 +14,7 @@ use Rattle.book.specs.Sizes.{hallsMax, partitionsMax, placesMax}
 use Rattle.book.specs.Cells.{Cell, cell, Store, _⟨_≔_⟩, each3, Held}
 use Rattle.book.specs.Cases.{by-test, by-eq, and-true}
 use Rattle.book.specs.Folds.{all-at}
-use Rattle.book.specs.Sets.{member}
+use Rattle.book.specs.Sets.{member, setOf, member-setOf}
 use Rattle.room.specs.Updates.{is, is-own, one-cell, bulk}
 use Rattle.room.specs.Layout.{size, at, Within, valid, store, stretch, start}
 use Rattle.room.specs.Bulk.{Row, upTo, row3k}
@@ -184,15 +184,16 @@ module _ (r : List ℕ) (h p k : ℕ) (hl : length r ≡ size) (hh : h < hallsMa
       ∙ rw q))
       (λ f. rw f)
 
-  -- such a change of the part is that change of the room
-  pub lift : (F : Store → Store) → Keeps h p F → (ys : List ℕ) → length ys ≡ stretch
-      → local h p ys ≡ F (local h p (midOf (start h p) k r))
-      → store (putMid (start h p) k r ys) ≡ F (store r)
-  lift F keeps ys e m =
-      (λ x c. back ys c e x)
-      ∙ ap (λ (τ : Store). glue h p τ (store r)) m
-      ∙ sym (keeps (local h p (midOf (start h p) k r)) (store r))
-      ∙ ap F (λ x c. lent c x)
+-- Such a change of the part, k words from the word a on, is that change of the room.
+pub lift : (r : List ℕ) (h p a k : ℕ) → length r ≡ size → h < hallsMax → p < partitionsMax → a ≡ start h p → k ≡ stretch
+    → (F : Store → Store) → Keeps h p F → (ys : List ℕ) → length ys ≡ stretch
+    → local h p ys ≡ F (local h p (midOf a k r)) → store (putMid a k r ys) ≡ F (store r)
+lift r h p a k hl hh hp ha hk F keeps ys e m =
+    rw ha
+    ((λ x c. back r h p k hl hh hp hk ys c e x)
+    ∙ ap (λ (τ : Store). glue h p τ (store r)) (rw ha at m)
+    ∙ sym (keeps (local h p (midOf (start h p) k r)) (store r))
+    ∙ ap F (λ x c. lent r h p k hl hh hp hk c x))
 
 -- What a function on a part did: read as any server's stretch, it was changed by F.
 abbrev pub Changed : (ℕ → ℕ → Store → Store) → List ℕ → List ℕ → Type 0
@@ -204,3 +205,16 @@ heldAll m h p σ = each3 Held (λ a q t. eqb h a && (eqb p q && (ltb t placesMax
 
 pub keeps-held : (m h p : ℕ) → h < hallsMax → p < partitionsMax → Keeps h p (heldAll m h p)
 keeps-held m h p hh hp = keeps-row h p (row3k 9 h p) (λ d. member m (d .k)) (λ d. 1) placesMax (λ t l. omega arith)
+
+-- what is held of a set that a test makes, where the test passes no place beyond
+pub heldAll-setOf : (ok : ℕ → Bool) (h p : ℕ) (σ : Store) → ((t : ℕ) → placesMax ≤ t → ok t ≡ false)
+    → heldAll (setOf placesMax ok) h p σ ≡ each3 Held (λ a q t. eqb h a && (eqb p q && ok t)) (λ a q t. 1) σ
+heldAll-setOf ok h p σ none = λ x d. each d x where
+  passes : (t : ℕ) → (ltb t placesMax && member (setOf placesMax ok) t) ≡ ok t
+  passes t =
+      rw (member-setOf placesMax ok t)
+      (by-test (ltb t placesMax) (λ e. rw e) (λ e. rw e (sym (none t (ltb-false t placesMax e)))))
+
+  each : (d : Cell)
+      → heldAll (setOf placesMax ok) h p σ d ≡ each3 Held (λ a q t. eqb h a && (eqb p q && ok t)) (λ a q t. 1) σ d
+  each d = rw (passes (d .k))
