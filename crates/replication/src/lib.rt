@@ -10,10 +10,11 @@ ghost use Rattle.book.specs.Sets.{setOf};
 ghost use Rattle.book.specs.Servers.{writer};
 ghost use Rattle.book.specs.ReplicationSteps.{preparedAt, versionClock, sendsTo, numberInstalled, install as installedStore, clockCarried, setCarried, numberCarried, deliver as deliveredStore};
 ghost use Rattle.room.specs.Layout.{size, store};
+ghost use Rattle.servers.specs.Holders.{includeIf};
 ghost use Rattle.clocks.specs.Clocks.{clockOf};
 ghost use Rattle.replication.specs.Safe.{Coordinated, Channel, Timely, Outgoing};
 ghost use Rattle.replication.specs.Lowest.{lowBelow, joined, installedClock};
-ghost use Rattle.replication.specs.Installing.{includeIf, due, marked};
+ghost use Rattle.replication.specs.Installing.{due, marked};
 ghost use Rattle.replication.specs.Sending.{sent, sentIf, messages};
 ghost use Rattle.replication.specs.Delivering.{freed};
 use book::Answer;
@@ -121,7 +122,7 @@ fn is_due(room: &[u64], h: usize, p: usize, version: Timestamp, t: usize) -> boo
 
 fn with_due(room: &[u64], h: usize, p: usize, version: Timestamp, t: usize, set: u64) -> u64
     requires { ⌜ (length (now room) ≡ size) × (p < partitionsMax) × (t < placesMax) × Coordinated (store (now room)) ⌝ }
-    ensures { λ r. ⌜ r ≡ includeIf (due (store (now (room .entry))) h p (version .0) t) set t ⌝ }
+    ensures { λ r. ⌜ r ≡ includeIf t (due (store (now (room .entry))) h p (version .0)) set ⌝ }
 {
     if is_due(room, h, p, version, t) {
         masks::with(set, t as u64)
