@@ -1,8 +1,7 @@
 -- What each step asks of the store: what keeps its places in the room and its sums in a word.
 use Prim.Native.Nat.{ℕ, _≤_, _<_, _^_}
-use Rattle.book.specs.Sizes.{hallsMax, partitionsMax, sessionsMax, keys, placesMax, timeMax}
+use Rattle.book.specs.Sizes.{hallsMax, sessionsMax, keys, placesMax, timeMax}
 use Rattle.book.specs.Cells.{Store, Halls, Hybrid, Snapshot, LastCommit, By, From, KeySet}
-use Rattle.book.specs.Servers.{writer, placeOf}
 
 -- transaction number n may be there
 pub record Numbered (n : ℕ) : Type 0 where
@@ -20,3 +19,8 @@ pub record Timely (σ : Store) (t h p : ℕ) : Type 0 where
   pub last : σ (LastCommit (σ (By t))) ≤ timeMax
   pub snapshot : σ (Snapshot (σ (By t))) ≤ timeMax
   pub hybrid : σ (Hybrid h p) ≤ timeMax
+
+-- its session is one of the room's, and it writes keys of the room alone
+pub record Writing (σ : Store) (t : ℕ) : Type 0 where
+  pub session : σ (By t) < sessionsMax
+  pub keySet : σ (KeySet t) < 2 ^ keys

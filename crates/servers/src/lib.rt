@@ -1,13 +1,13 @@
 // Which servers there are, and which of them a transaction writes at.
 ghost use mathlib.Core.Path.{_≡_};
+ghost use mathlib.Core.Bool.{cond};
 ghost use Prim.Native.Nat.{_<_, _≤_};
 ghost use lib.ListN.{length};
 ghost use Rattle.book.specs.Sizes.{hallsMax, placesMax};
 ghost use Rattle.book.specs.Cells.{Halls, From};
-ghost use Rattle.book.specs.Sets.{setOf};
+ghost use Rattle.book.specs.Sets.{include, setOf};
 ghost use Rattle.book.specs.Servers.{holds as isServer, writer};
 ghost use Rattle.room.specs.Layout.{size, store};
-ghost use Rattle.servers.specs.Holders.{includeIf};
 ghost use Rattle.servers.specs.Turns.{hallAfter};
 use room::FROM;
 use room::HALLS;
@@ -31,7 +31,7 @@ pub fn holds(room: &[u64], h: usize, p: usize) -> bool
 // The set m, with hall h in it if it holds p.
 fn with_holder(room: &[u64], p: usize, h: usize, m: u64) -> u64
     requires { ⌜ (length (now room) ≡ size) × (h < hallsMax) ⌝ }
-    ensures { λ r. ⌜ r ≡ includeIf h (λ g. isServer (store (now (room .entry))) g p) m ⌝ }
+    ensures { λ r. ⌜ r ≡ cond (isServer (store (now (room .entry))) h p) (include m h) m ⌝ }
 {
     if holds(room, h, p) {
         masks::with(m, h as u64)

@@ -10,5 +10,5 @@ proposed-at-spec =
     (λ c κs. search needs)
     (λ c κs. search needs)
     (λ c κs. search needs)
-    (λ c κs. let t = c .before .before .before .before .before .pre .4 in rw (c .take .ensures, c .before .get3 .ensures, c .before .before .get2 .ensures, c .before .before .before .get .ensures) (t .hybrid, t .last, t .snapshot))
-    (λ c. rw (c .proposed .ensures, c .before .take .ensures, c .before .before .get3 .ensures, c .before .before .before .get2 .ensures, c .before .before .before .before .get .ensures)))
+    (λ c κs. let t = c .before .before .before .before .before .pre .4 in rw (c .take .ensures, c .before .get2 .ensures, c .before .before .get .ensures, c .before .before .before .session-of .ensures .0) (t .hybrid, t .last, t .snapshot))
+    (λ c. rw (c .proposed .ensures, c .before .take .ensures, c .before .before .get2 .ensures, c .before .before .before .get .ensures, c .before .before .before .before .session-of .ensures .0)))
