@@ -32,10 +32,10 @@ round R ok v n σ =
 
 module _ (t s x m : ℕ) where
   abbrev values : Row
-  values = row2j 19 s
+  values = row2j (CacheValue s 0 .kind) s
 
   abbrev times : Row
-  times = row2j 20 s
+  times = row2j (CacheTime s 0 .kind) s
 
   abbrev among : Cell → Bool
   among d = member m (d .j)
@@ -54,7 +54,7 @@ module _ (t s x m : ℕ) where
   cached-next n σ =
       let v : Cell → ℕ = λ d. σ (Value t (d .j)) in
       upd (CacheTime s n) _ (round values among v n (timesTo n σ))
-      ∙ commute 20 19 (same (CacheTime s n)) _ _ v (timesTo n σ) refl
+      ∙ commute (CacheTime s n .kind) (CacheValue s n .kind) (same (CacheTime s n)) _ _ v (timesTo n σ) refl
       ∙ ap (λ (τ : Store). upTo values among v (n + 1) τ) (round times among (λ d. x) n σ)
 
   -- a set of the room's keys has none beyond them
