@@ -1,5 +1,5 @@
 pub mod Safe
-pub mod Lowest
+pub mod ClockAfter
 pub mod Installing
 pub mod Sending
 pub mod Installed

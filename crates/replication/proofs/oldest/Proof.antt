@@ -13,4 +13,4 @@ oldest-spec =
     (λ c κs. search needs)
     (λ c. let s = c .before .before .before .before in
     let a = s .args in
-    rw (first-slot (store (a .room .now)) (a .p) (a .f) (a .g) (s .pre .4), ← (c .before .before .get .ensures)) (c .before .get2 .ensures, c .get3 .ensures)))
+    rw (first-slot (store (a .room .now)) (a .p) (a .f) (a .g) (s .pre .4), ← (c .before .before .get .ensures), ← (c .before .get2 .ensures), ← (c .get3 .ensures))))
