@@ -16,14 +16,6 @@ use Rattle.book.specs.ReplicationSteps.{installs}
 use Rattle.room.specs.Layout.{store}
 use Rattle.room.specs.Words.{store-beyond}
 
--- the set m, with t in it if it passes
-abbrev pub includeIf : Bool → ℕ → ℕ → ℕ
-includeIf b m t = cond b (include m t) m
-
-pub setOf-none : (ok : ℕ → Bool) → 0 ≡ setOf 0 ok
-unfolding setOf
-setOf-none ok = refl
-
 -- how many of the first n pass does not go by what the others do
 count-same : (n : ℕ) (f g : ℕ → Bool) → ((t : ℕ) → t < n → f t ≡ g t) → count n f ≡ count n g
 unfolding count

@@ -10,8 +10,9 @@ use lib.ListN.{length, getD, set, take, drop, List·getD-append}
 use lib.Seq.{getD-set-same, getD-set-other, getD-take, getD-drop, getD-append-add, length-take-le}
 use borrow.Author.Tests.{eqb-true, ltb-true, ltb-false, leb-true, leb-false, lt-ltb, le-leb}
 use borrow.Rule.Slice.PartMut.{putMid, midOf, postOf}
+use Rattle.book.specs.declared.Vector.{Vector}
 use Rattle.book.specs.Sizes.{hallsMax, partitionsMax, placesMax}
-use Rattle.book.specs.Cells.{Cell, cell, Store, _⟨_≔_⟩, each3, Held}
+use Rattle.book.specs.Cells.{Cell, cell, Store, _⟨_≔_⟩, each3, Entry, Held}
 use Rattle.book.specs.Cases.{by-test, by-eq, and-true}
 use Rattle.book.specs.Folds.{all-at}
 use Rattle.book.specs.Sets.{member, setOf, member-setOf}
@@ -218,3 +219,20 @@ heldAll-setOf ok h p σ none = λ x d. each d x where
   each : (d : Cell)
       → heldAll (setOf placesMax ok) h p σ d ≡ each3 Held (λ a q t. eqb h a && (eqb p q && ok t)) (λ a q t. 1) σ d
   each d = rw (passes (d .k))
+
+-- what a version vector says of hall g
+abbrev pub entryOf : Vector → ℕ → ℕ
+entryOf v g = getD (v .times) g (record { 0 = 0 }) .0
+
+-- server (h, p)'s entries from a version vector
+abbrev pub withEntries : Vector → ℕ → ℕ → Store → Store
+withEntries v h p σ =
+    σ ⟨ Entry h p 0 ≔ entryOf v 0 ⟩ ⟨ Entry h p 1 ≔ entryOf v 1 ⟩ ⟨ Entry h p 2 ≔ entryOf v 2 ⟩ ⟨ Entry h p 3 ≔ entryOf v 3 ⟩
+
+pub keeps-entries : (v : Vector) (h p : ℕ) → h < hallsMax → p < partitionsMax → Keeps h p (withEntries v h p)
+keeps-entries v h p hh hp =
+    let entry : (g x : ℕ) → g < hallsMax → Keeps h p (λ σ. σ ⟨ Entry h p g ≔ x ⟩)
+            = λ g x l. keeps-put h p (Entry h p g) x (omega arith) in
+    keeps-then h p _ _ (entry 3 (entryOf v 3) (omega arith))
+    (keeps-then h p _ _ (entry 2 (entryOf v 2) (omega arith))
+    (keeps-then h p _ _ (entry 1 (entryOf v 1) (omega arith)) (entry 0 (entryOf v 0) (omega arith))))
