@@ -4,9 +4,9 @@ use mathlib.Core.Bool.{Bool, true, false, cond, _&&_, not}
 use mathlib.Core.Path.{_≡_}
 use native.Mathlib.Omega.{arith}
 use lib.Dec.{eqb, ltb, leb}
-use borrow.Author.Tests.{ltb-true, leb-true, eqb-true}
-use Rattle.book.specs.Sizes.{hallsMax, partitionsMax, sessionsMax, keys, placesMax, readingMax, timeMax}
-use Rattle.book.specs.Cells.{Store, Halls, Partitions, Sessions, Transactions, Status, idle, running, HomeHall, HomePartition, By}
+use borrow.Author.Tests.{ltb-true, leb-true, eqb-true, eqb-false}
+use Rattle.book.specs.Sizes.{hallsMax, partitionsMax, sessionsMax, keys, placesMax, slots, timeMax}
+use Rattle.book.specs.Cells.{Store, Halls, Partitions, Sessions, Transactions, Status, idle, running, HomeHall, HomePartition, By, First, Waiting}
 use Rattle.book.specs.Cases.{and-true, passed}
 use Rattle.book.specs.Servers.{holds, partitionOf, placeOf}
 use Rattle.book.specs.SessionSteps.{hasWrites}
@@ -153,3 +153,14 @@ module _ (σ : Store) (w : wellFormed σ ≡ true) where
       let y = ltb-true to (σ Halls) (b .0) in
       let m = sized .halls in
       (omega arith, omega arith)
+
+  pub deliver-in : (p f g : ℕ) → deliverRefusal σ p f g ≡ 0
+      → (p < partitionsMax) × (f < hallsMax) × (g < hallsMax) × (σ (First g p f) < slots) × (1 ≤ σ (Waiting g p f))
+  deliver-in p f g e =
+      let a = asked-for (holds σ f p && (holds σ g p && not (eqb f g))) 3 _ (omega arith) e in
+      let b = and-true (holds σ f p) _ (a .0) in
+      let d = and-true (holds σ g p) _ (b .1) in
+      let x = server f p (b .0) in
+      let y = server g p (d .0) in
+      let n = eqb-false (σ (Waiting g p f)) 0 (passed (eqb (σ (Waiting g p f)) 0) 11 _ (omega arith) (a .1) .0) in
+      (x .1, x .0, y .0, facts .first g p f (y .0) (x .1) (x .0), omega arith)
