@@ -1,6 +1,6 @@
 -- "One message with these and the version clock goes to each other holder": hall by hall, and all of them.
 use Prim.Native.Nat.{ℕ, suc, _+_}
-use mathlib.Core.Bool.{Bool, true, false, cond, _&&_, not}
+use mathlib.Core.Bool.{Bool, true, false, cond, _&&_}
 use mathlib.Core.Path.{_≡_, refl, sym, ap, _∙_}
 use mathlib.Core.List.{List}
 use native.Mathlib.Omega.{arith}
@@ -92,11 +92,11 @@ module _ (σ : Store) (h p c m : ℕ) where
       ≡ sentBelow (n + 1)
   sends n e =
       let x : clocks n (sets n (counts n σ)) ⟨ ClockSent n p h (nextSlot σ n p h) ≔ c ⟩ ≡ clocks (n + 1) (sets n (counts n σ))
-              = puts clockRow to (λ d. c) n (sets n (counts n σ)) e in
+      = puts clockRow to (λ d. c) n (sets n (counts n σ)) e in
       let y : sets n (counts n σ) ⟨ Carries n p h (nextSlot σ n p h) ≔ m ⟩ ≡ sets (n + 1) (counts n σ)
-              = puts setRow to (λ d. m) n (counts n σ) e in
+      = puts setRow to (λ d. m) n (counts n σ) e in
       let z : counts n σ ⟨ Waiting n p h ≔ suc (σ (Waiting n p h)) ⟩ ≡ counts (n + 1) σ
-              = puts countRow to oneMore n σ e in
+      = puts countRow to oneMore n σ e in
       upd _ _ (upd _ _ x ∙ commute 31 30 _ _ _ _ _ refl ∙ ap (clocks (n + 1)) y)
       ∙ commute 29 30 _ _ _ _ _ refl
       ∙ ap (clocks (n + 1)) (commute 29 31 _ _ _ _ _ refl ∙ ap (sets (n + 1)) z)

@@ -232,7 +232,7 @@ withEntries v h p σ =
 pub keeps-entries : (v : Vector) (h p : ℕ) → h < hallsMax → p < partitionsMax → Keeps h p (withEntries v h p)
 keeps-entries v h p hh hp =
     let entry : (g x : ℕ) → g < hallsMax → Keeps h p (λ σ. σ ⟨ Entry h p g ≔ x ⟩)
-            = λ g x l. keeps-put h p (Entry h p g) x (omega arith) in
+    = λ g x l. keeps-put h p (Entry h p g) x (omega arith) in
     keeps-then h p _ _ (entry 3 (entryOf v 3) (omega arith))
     (keeps-then h p _ _ (entry 2 (entryOf v 2) (omega arith))
     (keeps-then h p _ _ (entry 1 (entryOf v 1) (omega arith)) (entry 0 (entryOf v 0) (omega arith))))

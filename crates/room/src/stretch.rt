@@ -81,7 +81,14 @@ fn first_word(h: usize, p: usize) -> usize
 }
 
 // The same of server (h, p), whose stretch is lent on.
-pub fn install(room: &mut [u64], h: usize, p: usize, hybrid: Timestamp, version: Timestamp, set: u64)
+pub fn install(
+    room: &mut [u64],
+    h: usize,
+    p: usize,
+    hybrid: Timestamp,
+    version: Timestamp,
+    set: u64,
+)
     requires { ⌜ (length (now room) ≡ size) × (h < hallsMax) × (p < partitionsMax) ⌝ }
     ensures { λ r. ⌜ (length (now (room .exit)) ≡ size) × (store (now (room .exit)) ≡ heldAll set h p (store (now (room .entry)) ⟨ Hybrid h p ≔ hybrid .0 ⟩ ⟨ Entry h p h ≔ version .0 ⟩)) ⌝ }
 {
