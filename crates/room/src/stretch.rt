@@ -8,6 +8,17 @@ ghost use Rattle.book.specs.Cells.{Hybrid, Entry, Held, _⟨_≔_⟩};
 ghost use Rattle.room.specs.Layout.{size, store, stretch, start};
 ghost use Rattle.room.specs.Stretch.{Changed, heldAll};
 
+// Its words.
+const STRETCH: usize = 71;
+
+// The first word of server (h, p)'s stretch.
+fn first_word(h: usize, p: usize) -> usize
+    requires { ⌜ (h < hallsMax) × (p < partitionsMax) ⌝ }
+    ensures { λ r. ⌜ r ≡ start h p ⌝ }
+{
+    8 + STRETCH * (4 * h + p)
+}
+
 fn set_hybrid(part: &mut [u64], v: u64)
     requires { ⌜ length (now part) ≡ stretch ⌝ }
     ensures { λ r. ⌜ Changed (λ h p σ. σ ⟨ Hybrid h p ≔ v ⟩) (now (part .entry)) (now (part .exit)) ⌝ }
@@ -59,21 +70,13 @@ pub fn deliver_at(part: &mut [u64], f: usize, clock: u64, set: u64)
     hold_all(part, set);
 }
 
-// The first word of server (h, p)'s stretch.
-fn first_word(h: usize, p: usize) -> usize
-    requires { ⌜ (h < hallsMax) × (p < partitionsMax) ⌝ }
-    ensures { λ r. ⌜ r ≡ start h p ⌝ }
-{
-    8 + 71 * (4 * h + p)
-}
-
-// The same of server (h, p), whose stretch is lent on.
+// The two, of server (h, p), whose stretch is lent on.
 pub fn install(room: &mut [u64], h: usize, p: usize, hybrid: u64, version: u64, set: u64)
     requires { ⌜ (length (now room) ≡ size) × (h < hallsMax) × (p < partitionsMax) ⌝ }
     ensures { λ r. ⌜ (length (now (room .exit)) ≡ size) × (store (now (room .exit)) ≡ heldAll set h p (store (now (room .entry)) ⟨ Hybrid h p ≔ hybrid ⟩ ⟨ Entry h p h ≔ version ⟩)) ⌝ }
 {
     let a = first_word(h, p);
-    let e = a + 71;
+    let e = a + STRETCH;
     install_at(&mut room[a..e], h, hybrid, version, set);
 }
 
@@ -82,6 +85,6 @@ pub fn deliver(room: &mut [u64], h: usize, p: usize, f: usize, clock: u64, set: 
     ensures { λ r. ⌜ (length (now (room .exit)) ≡ size) × (store (now (room .exit)) ≡ heldAll set h p (store (now (room .entry)) ⟨ Entry h p f ≔ clock ⟩)) ⌝ }
 {
     let a = first_word(h, p);
-    let e = a + 71;
+    let e = a + STRETCH;
     deliver_at(&mut room[a..e], f, clock, set);
 }
