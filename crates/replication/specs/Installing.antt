@@ -30,6 +30,7 @@ size-setOf ok = count-same placesMax (member (setOf placesMax ok)) ok (λ t l. r
 abbrev pub due : Store → ℕ → ℕ → ℕ → ℕ → Bool
 due σ h p v t = eqb (σ (State t p)) waiting && (eqb (writer σ t p) h && leb (σ (CommitTime t)) v)
 
+-- the tests of `due`, the first two of them together
 pub both-first : (a b x : Bool) → (a && (b && x)) ≡ ((a && b) && x)
 both-first true b x = refl
 both-first false b x = refl
