@@ -5,7 +5,7 @@ use mathlib.Core.Path.{_≡_, refl, sym, ap, _∙_}
 use native.Mathlib.Omega.{arith}
 use lib.Dec.{eqb}
 use Rattle.book.specs.Sizes.{hallsMax, slots}
-use Rattle.book.specs.Cells.{Cell, Store, _⟨_≔_⟩, Entry, First, Waiting}
+use Rattle.book.specs.Cells.{Store, _⟨_≔_⟩, Entry, First, Waiting}
 use Rattle.book.specs.Cases.{eqb-refl}
 use Rattle.book.specs.ReplicationSteps.{slotOf, clockCarried, setCarried, deliver}
 use Rattle.room.specs.Updates.{keep, upd, commute}

@@ -88,7 +88,7 @@ fn clock_after(room: &[u64], h: usize, p: usize) -> Clock
     installed(clocks::take(room, h, p), lowest_prepared(room, h, p))
 }
 
-// "Every waiting transaction with commit time at or below the version clock is installed."
+// "Every waiting transaction with commit time at or below the version clock"
 fn is_due(room: &[u64], h: usize, p: usize, version: Timestamp, t: usize) -> bool
     requires { ⌜ (length (now room) ≡ size) × (p < partitionsMax) × (t < placesMax) × Coordinated (store (now room)) ⌝ }
     ensures { λ r. ⌜ r ≡ due (store (now (room .entry))) h p (version .0) t ⌝ }
@@ -162,7 +162,7 @@ fn send_to(room: &mut [u64], h: usize, p: usize, g: usize, m: Message)
     }
 }
 
-// "One message with these and the version clock goes to each other holder, even if empty."
+// "One message with these and the version clock goes to each other holder"
 fn send_to_all(room: &mut [u64], h: usize, p: usize, m: Message)
     requires { ⌜ (length (now room) ≡ size) × (h < hallsMax) × (p < partitionsMax) × Outgoing (store (now room)) h p ⌝ }
     ensures { λ r. ⌜ (length (now (room .exit)) ≡ size) × (store (now (room .exit)) ≡ messages (store (now (room .entry))) h p (m .clock .0) (m .set) (store (now (room .entry)))) ⌝ }
@@ -172,7 +172,7 @@ fn send_to_all(room: &mut [u64], h: usize, p: usize, m: Message)
     }
 }
 
-// 9. Install
+// 9. "Every waiting transaction with commit time at or below the version clock is installed. .. Answers the version clock and the number installed."
 pub fn install(room: &mut [u64], h: usize, p: usize) -> Answer
     requires { ⌜ (length (now room) ≡ size) × (h < hallsMax) × (p < partitionsMax) × Coordinated (store (now room)) × Timely (store (now room)) p × Outgoing (store (now room)) h p ⌝ }
     ensures { λ r. ⌜ (length (now (room .exit)) ≡ size) × (r ≡ Answer.Answered (versionClock (store (now (room .entry))) h p) (numberInstalled (store (now (room .entry))) h p)) × (store (now (room .exit)) ≡ installedStore (store (now (room .entry))) h p) ⌝ }
@@ -182,6 +182,7 @@ pub fn install(room: &mut [u64], h: usize, p: usize) -> Answer
     let set = due_set(room, h, p, clock);
     room::stretch::install(room, h, p, c.hybrid, clock, set);
     mark_installed(room, p, set);
+    // No install is quiet: a message goes out "even if empty".
     send_to_all(room, h, p, Message { clock, set });
     Answer::Answered(clock.0, masks::count(set))
 }
@@ -209,7 +210,7 @@ fn free_place(room: &mut [u64], p: usize, f: usize, g: usize)
     room::put(room, WAITING, g, p, f, 0, waiting - 1);
 }
 
-// 10. Deliver
+// 10. "Takes the oldest message, installs its transactions, sets the entry for the sender. Answers the clock carried and the number installed."
 pub fn deliver(room: &mut [u64], p: usize, f: usize, g: usize) -> Answer
     requires { ⌜ (length (now room) ≡ size) × (p < partitionsMax) × (f < hallsMax) × (g < hallsMax) × (store (now room) (First g p f) < slots) × (1 ≤ store (now room) (Waiting g p f)) ⌝ }
     ensures { λ r. ⌜ (length (now (room .exit)) ≡ size) × (r ≡ Answer.Answered (clockCarried (store (now (room .entry))) p f g) (numberCarried (store (now (room .entry))) p f g)) × (store (now (room .exit)) ≡ deliveredStore (store (now (room .entry))) p f g) ⌝ }

@@ -1,7 +1,7 @@
 -- "Each server writes only its own stretch of the lent room for clocks, vector and versions held": what is written to the stretch, lent on
 -- as a part of the room, said of the room's cells.
 use Prim.Native.Nat.{ℕ, _+_, _-_, _≤_, _<_}
-use mathlib.Core.Bool.{Bool, true, false, cond, _&&_, true≢false}
+use mathlib.Core.Bool.{Bool, true, cond, _&&_, true≢false}
 use mathlib.Core.Path.{_≡_, sym, ap, _∙_}
 use mathlib.Core.List.{List, _++_}
 use native.Mathlib.Omega.{arith}
@@ -15,7 +15,7 @@ use Rattle.book.specs.Sizes.{hallsMax, partitionsMax, placesMax}
 use Rattle.book.specs.Cells.{Cell, cell, Store, _⟨_≔_⟩, each3, Entry, Held}
 use Rattle.book.specs.Cases.{by-test, by-eq, and-true}
 use Rattle.book.specs.Folds.{all-at}
-use Rattle.book.specs.Sets.{member, setOf, member-setOf}
+use Rattle.book.specs.Sets.{member}
 use Rattle.room.specs.Updates.{is, is-own, one-cell, bulk}
 use Rattle.room.specs.Layout.{size, at, Within, valid, store, stretch, start}
 use Rattle.room.specs.Bulk.{Row, upTo, row3k}
@@ -206,19 +206,6 @@ heldAll m h p σ = each3 Held (λ a q t. eqb h a && (eqb p q && (ltb t placesMax
 
 pub keeps-held : (m h p : ℕ) → h < hallsMax → p < partitionsMax → Keeps h p (heldAll m h p)
 keeps-held m h p hh hp = keeps-row h p (row3k 9 h p) (λ d. member m (d .k)) (λ d. 1) placesMax (λ t l. omega arith)
-
--- what is held of a set that a test makes, where the test passes no place beyond
-pub heldAll-setOf : (ok : ℕ → Bool) (h p : ℕ) (σ : Store) → ((t : ℕ) → placesMax ≤ t → ok t ≡ false)
-    → heldAll (setOf placesMax ok) h p σ ≡ each3 Held (λ a q t. eqb h a && (eqb p q && ok t)) (λ a q t. 1) σ
-heldAll-setOf ok h p σ none = λ x d. each d x where
-  passes : (t : ℕ) → (ltb t placesMax && member (setOf placesMax ok) t) ≡ ok t
-  passes t =
-      rw (member-setOf placesMax ok t)
-      (by-test (ltb t placesMax) (λ e. rw e) (λ e. rw e (sym (none t (ltb-false t placesMax e)))))
-
-  each : (d : Cell)
-      → heldAll (setOf placesMax ok) h p σ d ≡ each3 Held (λ a q t. eqb h a && (eqb p q && ok t)) (λ a q t. 1) σ d
-  each d = rw (passes (d .k))
 
 -- what a version vector says of hall g
 abbrev pub entryOf : Vector → ℕ → ℕ

@@ -10,6 +10,17 @@ ghost use Rattle.room.specs.Stretch.{Changed, heldAll, withEntries};
 use book::Timestamp;
 use book::Vector;
 
+// Its words.
+const STRETCH: usize = 71;
+
+// The first word of server (h, p)'s stretch.
+fn first_word(h: usize, p: usize) -> usize
+    requires { ⌜ (h < hallsMax) × (p < partitionsMax) ⌝ }
+    ensures { λ r. ⌜ r ≡ start h p ⌝ }
+{
+    8 + STRETCH * (4 * h + p)
+}
+
 fn set_hybrid(part: &mut [u64], x: Timestamp)
     requires { ⌜ length (now part) ≡ stretch ⌝ }
     ensures { λ r. ⌜ Changed (λ h p σ. σ ⟨ Hybrid h p ≔ x .0 ⟩) (now (part .entry)) (now (part .exit)) ⌝ }
@@ -72,6 +83,7 @@ pub fn deliver_at(part: &mut [u64], v: Vector, set: u64)
     hold_all(part, set);
 }
 
+<<<<<<< HEAD
 // The first word of server (h, p)'s stretch.
 fn first_word(h: usize, p: usize) -> usize
     requires { ⌜ (h < hallsMax) × (p < partitionsMax) ⌝ }
@@ -81,6 +93,9 @@ fn first_word(h: usize, p: usize) -> usize
 }
 
 // The same of server (h, p), whose stretch is lent on.
+=======
+// The two, of server (h, p), whose stretch is lent on.
+>>>>>>> replication
 pub fn install(
     room: &mut [u64],
     h: usize,
@@ -93,7 +108,7 @@ pub fn install(
     ensures { λ r. ⌜ (length (now (room .exit)) ≡ size) × (store (now (room .exit)) ≡ heldAll set h p (store (now (room .entry)) ⟨ Hybrid h p ≔ hybrid .0 ⟩ ⟨ Entry h p h ≔ version .0 ⟩)) ⌝ }
 {
     let a = first_word(h, p);
-    let e = a + 71;
+    let e = a + STRETCH;
     install_at(&mut room[a..e], h, hybrid, version, set);
 }
 
@@ -102,6 +117,6 @@ pub fn deliver(room: &mut [u64], h: usize, p: usize, v: Vector, set: u64)
     ensures { λ r. ⌜ (length (now (room .exit)) ≡ size) × (store (now (room .exit)) ≡ heldAll set h p (withEntries v h p (store (now (room .entry))))) ⌝ }
 {
     let a = first_word(h, p);
-    let e = a + 71;
+    let e = a + STRETCH;
     deliver_at(&mut room[a..e], v, set);
 }

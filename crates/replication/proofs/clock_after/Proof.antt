@@ -1,4 +1,3 @@
-use mathlib.Core.Path.{sym}
 use Rattle.room.specs.Layout.{store}
 use Rattle.replication.specs.ClockAfter.{lowest-above}
 use borrow.Author.Needs.{needs}
