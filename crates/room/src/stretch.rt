@@ -83,19 +83,7 @@ pub fn deliver_at(part: &mut [u64], v: Vector, set: u64)
     hold_all(part, set);
 }
 
-<<<<<<< HEAD
-// The first word of server (h, p)'s stretch.
-fn first_word(h: usize, p: usize) -> usize
-    requires { ⌜ (h < hallsMax) × (p < partitionsMax) ⌝ }
-    ensures { λ r. ⌜ r ≡ start h p ⌝ }
-{
-    8 + 71 * (4 * h + p)
-}
-
-// The same of server (h, p), whose stretch is lent on.
-=======
 // The two, of server (h, p), whose stretch is lent on.
->>>>>>> replication
 pub fn install(
     room: &mut [u64],
     h: usize,
