@@ -1,7 +1,7 @@
 -- "Each server writes only its own stretch of the lent room for clocks, vector and versions held": what is written to the stretch, lent on
 -- as a part of the room, said of the room's cells.
 use Prim.Native.Nat.{ℕ, _+_, _-_, _≤_, _<_}
-use mathlib.Core.Bool.{Bool, true, false, cond, _&&_, true≢false}
+use mathlib.Core.Bool.{Bool, true, cond, _&&_, true≢false}
 use mathlib.Core.Path.{_≡_, sym, ap, _∙_}
 use mathlib.Core.List.{List, _++_}
 use native.Mathlib.Omega.{arith}
@@ -10,11 +10,12 @@ use lib.ListN.{length, getD, set, take, drop, List·getD-append}
 use lib.Seq.{getD-set-same, getD-set-other, getD-take, getD-drop, getD-append-add, length-take-le}
 use borrow.Author.Tests.{eqb-true, ltb-true, ltb-false, leb-true, leb-false, lt-ltb, le-leb}
 use borrow.Rule.Slice.PartMut.{putMid, midOf, postOf}
+use Rattle.book.specs.declared.Vector.{Vector}
 use Rattle.book.specs.Sizes.{hallsMax, partitionsMax, placesMax}
-use Rattle.book.specs.Cells.{Cell, cell, Store, _⟨_≔_⟩, each3, Held}
+use Rattle.book.specs.Cells.{Cell, cell, Store, _⟨_≔_⟩, each3, Entry, Held}
 use Rattle.book.specs.Cases.{by-test, by-eq, and-true}
 use Rattle.book.specs.Folds.{all-at}
-use Rattle.book.specs.Sets.{member, setOf, member-setOf}
+use Rattle.book.specs.Sets.{member}
 use Rattle.room.specs.Updates.{is, is-own, one-cell, bulk}
 use Rattle.room.specs.Layout.{size, at, Within, valid, store, stretch, start}
 use Rattle.room.specs.Bulk.{Row, upTo, row3k}
@@ -206,15 +207,19 @@ heldAll m h p σ = each3 Held (λ a q t. eqb h a && (eqb p q && (ltb t placesMax
 pub keeps-held : (m h p : ℕ) → h < hallsMax → p < partitionsMax → Keeps h p (heldAll m h p)
 keeps-held m h p hh hp = keeps-row h p (row3k 9 h p) (λ d. member m (d .k)) (λ d. 1) placesMax (λ t l. omega arith)
 
--- what is held of a set that a test makes, where the test passes no place beyond
-pub heldAll-setOf : (ok : ℕ → Bool) (h p : ℕ) (σ : Store) → ((t : ℕ) → placesMax ≤ t → ok t ≡ false)
-    → heldAll (setOf placesMax ok) h p σ ≡ each3 Held (λ a q t. eqb h a && (eqb p q && ok t)) (λ a q t. 1) σ
-heldAll-setOf ok h p σ none = λ x d. each d x where
-  passes : (t : ℕ) → (ltb t placesMax && member (setOf placesMax ok) t) ≡ ok t
-  passes t =
-      rw (member-setOf placesMax ok t)
-      (by-test (ltb t placesMax) (λ e. rw e) (λ e. rw e (sym (none t (ltb-false t placesMax e)))))
+-- what a version vector says of hall g
+abbrev pub entryOf : Vector → ℕ → ℕ
+entryOf v g = getD (v .times) g (record { 0 = 0 }) .0
 
-  each : (d : Cell)
-      → heldAll (setOf placesMax ok) h p σ d ≡ each3 Held (λ a q t. eqb h a && (eqb p q && ok t)) (λ a q t. 1) σ d
-  each d = rw (passes (d .k))
+-- server (h, p)'s entries from a version vector
+abbrev pub withEntries : Vector → ℕ → ℕ → Store → Store
+withEntries v h p σ =
+    σ ⟨ Entry h p 0 ≔ entryOf v 0 ⟩ ⟨ Entry h p 1 ≔ entryOf v 1 ⟩ ⟨ Entry h p 2 ≔ entryOf v 2 ⟩ ⟨ Entry h p 3 ≔ entryOf v 3 ⟩
+
+pub keeps-entries : (v : Vector) (h p : ℕ) → h < hallsMax → p < partitionsMax → Keeps h p (withEntries v h p)
+keeps-entries v h p hh hp =
+    let entry : (g x : ℕ) → g < hallsMax → Keeps h p (λ σ. σ ⟨ Entry h p g ≔ x ⟩)
+    = λ g x l. keeps-put h p (Entry h p g) x (omega arith) in
+    keeps-then h p _ _ (entry 3 (entryOf v 3) (omega arith))
+    (keeps-then h p _ _ (entry 2 (entryOf v 2) (omega arith))
+    (keeps-then h p _ _ (entry 1 (entryOf v 1) (omega arith)) (entry 0 (entryOf v 0) (omega arith))))

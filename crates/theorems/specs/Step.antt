@@ -62,7 +62,7 @@ abbrev Takes : Store → Rule → Type 0
 Takes σ r = r .refusal ≡ 0 → (s : Step σ) × (r .after ≡ next σ s)
 
 -- what a ladder asks for is there
-asked-for : (b : Bool) (n r : ℕ) → 0 < n → cond (not b) n r ≡ 0 → (b ≡ true) × (r ≡ 0)
+pub asked-for : (b : Bool) (n r : ℕ) → 0 < n → cond (not b) n r ≡ 0 → (b ≡ true) × (r ≡ 0)
 asked-for b n r l e = let w = passed (not b) n r l e in (not-false b (w .0), w .1)
 
 either : (a b : Bool) → (a || b) ≡ true → (a ≡ true) ⊎ (b ≡ true)

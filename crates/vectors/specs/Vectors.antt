@@ -3,7 +3,7 @@ use Prim.Native.Nat.{ℕ}
 use mathlib.Core.Bool.{Bool}
 use mathlib.Core.Path.{_≡_, ap}
 use mathlib.Core.List.{[], _∷_}
-use lib.ListN.{getD, set}
+use lib.ListN.{set}
 use Rattle.book.specs.declared.Timestamp.{Timestamp}
 use Rattle.book.specs.declared.Vector.{Vector}
 use Rattle.book.specs.Sizes.{hallsMax}
@@ -12,6 +12,7 @@ use Rattle.book.specs.Folds.{any, lowest}
 use Rattle.book.specs.Sets.{member, setOf, member-setOf}
 use Rattle.book.specs.Servers.{holds}
 use Rattle.book.specs.GossipSteps.{lowestEntry}
+use Rattle.room.specs.Stretch.{entryOf}
 
 abbrev pub time : ℕ → Timestamp
 time x = record { 0 = x }
@@ -22,9 +23,6 @@ vectorOf σ h p = record {
   times = time (σ (Entry h p 0)) ∷ time (σ (Entry h p 1)) ∷ time (σ (Entry h p 2)) ∷ time (σ (Entry h p 3)) ∷ [];
   holders = setOf hallsMax (λ g. holds σ g p);
 }
-
-abbrev pub entryOf : Vector → ℕ → ℕ
-entryOf v g = getD (v .times) g (time 0) .0
 
 -- "the lowest entry of that server's vector"
 abbrev pub lowestTime : Vector → ℕ

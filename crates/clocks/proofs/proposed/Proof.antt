@@ -3,9 +3,7 @@ use Rattle.clocks.proofs.proposed.Statement.{statement}
 use Rattle.clocks.proofs.proposed.Tie as tie
 
 pub proposed-spec : {M : Type 1} → statement M
-proposed-spec =
-    tie.close
-    (tie.spec
+proposed-spec = tie.close (tie.spec
     (λ c κs. search needs)
     (λ c κs. search needs)
     (λ c κs. search needs)

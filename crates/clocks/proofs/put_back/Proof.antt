@@ -3,9 +3,7 @@ use Rattle.clocks.proofs.put_back.Statement.{statement}
 use Rattle.clocks.proofs.put_back.Tie as tie
 
 pub put-back-spec : {M : Type 1} → statement M
-put-back-spec =
-    tie.close
-    (tie.spec
+put-back-spec = tie.close (tie.spec
     (λ c κs. search needs)
     (λ c κs. search needs)
     (λ c κs. search needs)

@@ -3,9 +3,7 @@ use Rattle.clocks.proofs.take.Statement.{statement}
 use Rattle.clocks.proofs.take.Tie as tie
 
 pub take-spec : {M : Type 1} → statement M
-take-spec =
-    tie.close
-    (tie.spec
+take-spec = tie.close (tie.spec
     (λ c κs. search needs)
     (λ c κs. search needs)
     (λ c κs. search needs)

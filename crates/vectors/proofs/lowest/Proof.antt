@@ -6,7 +6,8 @@ use Rattle.book.specs.Sets.{member}
 use lib.ListN.{getD}
 use Rattle.times.specs.declared.Lowest.{Lowest}
 use Rattle.times.specs.Lowest.{lowestBelow, lowest-none, lowest-join}
-use Rattle.vectors.specs.Vectors.{time, entryOf}
+use Rattle.room.specs.Stretch.{entryOf}
+use Rattle.vectors.specs.Vectors.{time}
 use borrow.Author.Needs.{needs}
 use Rattle.vectors.proofs.lowest.Statement.{statement}
 use Rattle.vectors.proofs.lowest.Tie as tie

@@ -1,9 +1,8 @@
 use Prim.Native.Nat.{_+_, _-_}
 use native.Mathlib.Omega.{arith}
-use borrow.Author.Needs.{needs}
-use Rattle.book.specs.Cells.{_⟨_≔_⟩, Entry}
 use Rattle.room.specs.Layout.{stretch}
-use Rattle.room.specs.Stretch.{heldAll, keeps-held, keeps-put, keeps-then, lift}
+use Rattle.room.specs.Stretch.{heldAll, withEntries, keeps-held, keeps-entries, keeps-then, lift}
+use borrow.Author.Needs.{needs}
 use Rattle.room.proofs.stretch.deliver.Statement.{statement}
 use Rattle.room.proofs.stretch.deliver.Tie as tie
 
@@ -27,9 +26,7 @@ deliver-spec =
     let e = c .before .before .deliver-at .ensures in (
       search needs,
       lift (a .room .now) h p (w .result) (w .result + stretch - w .result) (s .pre .0) (s .pre .1) (s .pre .2) (w .ensures) (omega arith)
-          (λ σ. heldAll (a .set) h p (σ ⟨ Entry h p (a .f) ≔ a .clock ⟩))
-          (keeps-then h p (heldAll (a .set) h p) (λ σ. σ ⟨ Entry h p (a .f) ≔ a .clock ⟩)
-          (keeps-held (a .set) h p (s .pre .1) (s .pre .2))
-          (keeps-put h p (Entry h p (a .f)) (a .clock) (omega arith)))
+          (λ σ. heldAll (a .set) h p (withEntries (a .v) h p σ))
+          (keeps-then h p (heldAll (a .set) h p) (withEntries (a .v) h p) (keeps-held (a .set) h p (s .pre .1) (s .pre .2)) (keeps-entries (a .v) h p (s .pre .1) (s .pre .2)))
           _ (e .0) (e .1 h p (s .pre .1) (s .pre .2)),
     )))

@@ -27,11 +27,11 @@ install-spec =
     let e = c .before .before .install-at .ensures in (
       search needs,
       lift (a .room .now) h p (w .result) (w .result + stretch - w .result) (s .pre .0) (s .pre .1) (s .pre .2) (w .ensures) (omega arith)
-          (λ σ. heldAll (a .set) h p (σ ⟨ Hybrid h p ≔ a .hybrid ⟩ ⟨ Entry h p h ≔ a .version ⟩))
-          (keeps-then h p (heldAll (a .set) h p) (λ σ. σ ⟨ Hybrid h p ≔ a .hybrid ⟩ ⟨ Entry h p h ≔ a .version ⟩)
+          (λ σ. heldAll (a .set) h p (σ ⟨ Hybrid h p ≔ a .hybrid .0 ⟩ ⟨ Entry h p h ≔ a .version .0 ⟩))
+          (keeps-then h p (heldAll (a .set) h p) (λ σ. σ ⟨ Hybrid h p ≔ a .hybrid .0 ⟩ ⟨ Entry h p h ≔ a .version .0 ⟩)
           (keeps-held (a .set) h p (s .pre .1) (s .pre .2))
-          (keeps-then h p (λ σ. σ ⟨ Entry h p h ≔ a .version ⟩) (λ σ. σ ⟨ Hybrid h p ≔ a .hybrid ⟩)
-          (keeps-put h p (Entry h p h) (a .version) (omega arith))
-          (keeps-put h p (Hybrid h p) (a .hybrid) (omega arith))))
+          (keeps-then h p (λ σ. σ ⟨ Entry h p h ≔ a .version .0 ⟩) (λ σ. σ ⟨ Hybrid h p ≔ a .hybrid .0 ⟩)
+          (keeps-put h p (Entry h p h) (a .version .0) (omega arith))
+          (keeps-put h p (Hybrid h p) (a .hybrid .0) (omega arith))))
           _ (e .0) (e .1 h p (s .pre .1) (s .pre .2)),
     )))
