@@ -5,14 +5,15 @@ use mathlib.Core.Path.{_≡_, refl, sym, ap, _∙_}
 use mathlib.Core.List.{List}
 use lib.Dec.{eqb}
 use lib.ListN.{length}
-use borrow.Author.Tests.{eq-eqb, ne-eqb}
+use borrow.Author.Tests.{eq-eqb, ne-eqb, eqb-true}
 use Rattle.book.specs.declared.Answer.{Answer}
 use Rattle.book.specs.declared.Answer.the-variants.{Refused}
 use Rattle.book.specs.Cells.{Store}
+use Rattle.book.specs.Cases.{by-test, and-true}
 use Rattle.book.specs.Steps.{ruleOf, refusal, after, answer, refused-unchanged}
 use Rattle.book.specs.WellFormed.{wellFormed}
 use Rattle.room.specs.Layout.{size, store}
-use Rattle.room.specs.Lay.{lay, lay-store, onto}
+use Rattle.room.specs.Lay.{lay, length-lay, lay-store, onto}
 
 -- 1: "room of wrong length; or, except at setup, a room that isn't well formed"
 abbrev pub sound : List ℕ → Bool
@@ -63,3 +64,11 @@ taken σ code a b c e = (rw (eq-eqb (refusal σ code a b c) 0 e), rw (eq-eqb (re
 -- the inner step's promise is the public one's, where the room is sound
 pub moved-stepped : {r : List ℕ} {code a b c : ℕ} {x : Answer} {late : List ℕ} → sound r ≡ true → Moved r code a b c x late → Stepped r code a b c x late
 moved-stepped {late = late} e m = record { answer = rw e (m .answer); room = rw e (sym (lay-store late (m .size)) ∙ ap lay (m .store)) }
+
+-- a step leaves a room as long as it was
+pub step-length : {r : List ℕ} {code a b c : ℕ} {x : Answer} {late : List ℕ} → Stepped r code a b c x late → length late ≡ length r
+step-length {r} {code} {a} {b} {c} s =
+    by-test (sound r)
+    (λ e. ap length (s .room)
+    ∙ rw e (length-lay (after (store r) code a b c) ∙ sym (eqb-true (length r) size (and-true (eqb (length r) size) _ e .0))))
+    (λ e. ap length (s .room) ∙ rw e)
