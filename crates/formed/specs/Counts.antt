@@ -1,5 +1,5 @@
 -- How far counts go, and the highest that passes.
-use Prim.Native.Nat.{ℕ, zero, suc, _+_, _*_, _≤_}
+use Prim.Native.Nat.{ℕ, suc, _+_, _*_, _≤_}
 use mathlib.Core.Bool.{Bool, false, cond}
 use mathlib.Core.Path.{_≡_, refl}
 use native.Mathlib.Numerals.{add-one}
@@ -9,25 +9,15 @@ use Rattle.book.specs.Sizes.{partitionsMax}
 use Rattle.book.specs.Cells.{Store, State, prepared}
 use Rattle.book.specs.Cases.{by-test}
 use Rattle.book.specs.Folds.{any, count, sum, largest, largest-within}
+use Rattle.room.specs.Loops.{count-le, sum-le}
 use Rattle.formed.specs.Blocks.{preparedAt}
-
--- a count of n is at most n; a sum of n counts of partitions at most n times their number
-pub count-le : (n : ℕ) (ok : ℕ → Bool) → count n ok ≤ n
-unfolding count
-count-le zero ok = omega arith
-count-le (suc n) ok = let ih = count-le n ok in by-test (ok n) (λ e. rw e (omega arith)) (λ e. rw e (omega arith))
-
-pub sum-le : (n : ℕ) (f : ℕ → ℕ) → ((t : ℕ) → f t ≤ partitionsMax) → sum n f ≤ n * partitionsMax
-unfolding sum
-sum-le zero f h = omega arith
-sum-le (suc n) f h = omega (arith, sum-le n f h, h n)
 
 -- at most each partition of a transaction, so at most so many of n transactions
 pub prepared-le : (σ : Store) (t : ℕ) → preparedAt σ t ≤ partitionsMax
 prepared-le σ t = count-le partitionsMax (λ p. leb prepared (σ (State t p)))
 
 pub pairs-le : (n : ℕ) (σ : Store) → sum n (preparedAt σ) ≤ n * partitionsMax
-pairs-le n σ = sum-le n (preparedAt σ) (prepared-le σ)
+pairs-le n σ = sum-le n partitionsMax (preparedAt σ) (prepared-le σ)
 
 -- one more than the highest below n that passes, 0 where none does
 abbrev pub highest : ℕ → (ℕ → Bool) → ℕ

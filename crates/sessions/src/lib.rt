@@ -1,7 +1,7 @@
 // Steps 2 to 5, for numbers that are not turned away.
 ghost use mathlib.Core.Path.{_≡_};
 ghost use mathlib.Core.Bool.{false, cond, _&&_};
-ghost use Prim.Native.Nat.{_+_, _-_, _≤_, _<_, max};
+ghost use Prim.Native.Nat.{_+_, _-_, _≤_, _<_};
 ghost use lib.ListN.{length};
 ghost use lib.Dec.{eqb, leb};
 ghost use Rattle.book.specs.Sizes.{hallsMax, partitionsMax, sessionsMax, keys, placesMax};
@@ -37,12 +37,7 @@ use room::TRANSACTIONS;
 use room::VALUE;
 use room::WRITE_SET;
 use room::WRITE_VALUE;
-
-fn larger(a: Timestamp, b: Timestamp) -> Timestamp
-    ensures { λ r. ⌜ r .0 ≡ max (a .0) (b .0) ⌝ }
-{
-    if a.0 < b.0 { b } else { a }
-}
+use times::larger;
 
 // "reading minus S, or 0 if S is larger"
 fn lag(reading: Reading, snapshot: Timestamp) -> u64

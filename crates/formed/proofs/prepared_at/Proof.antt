@@ -6,8 +6,8 @@ use Rattle.book.specs.Sizes.{partitionsMax}
 use Rattle.book.specs.Cells.{State, prepared}
 use Rattle.book.specs.Folds.{count}
 use Rattle.room.specs.Layout.{store}
-use Rattle.room.specs.Loops.{count-next}
-use Rattle.formed.specs.Counts.{count-none, count-le}
+use Rattle.room.specs.Loops.{count-next, count-le}
+use Rattle.formed.specs.Counts.{count-none}
 use borrow.Author.Needs.{needs}
 use Rattle.formed.proofs.prepared_at.Statement.{statement}
 use Rattle.formed.proofs.prepared_at.Tie as tie
