@@ -1,0 +1,26 @@
+use Rattle.room.specs.Layout.{store}
+use Rattle.clocks.specs.Clocks.{hybrid-alone}
+use borrow.Author.Needs.{needs}
+use Rattle.commits.proofs.prepare.Statement.{statement}
+use Rattle.commits.proofs.prepare.Tie as tie
+
+pub prepare-spec : {M : Type 1} → statement M
+prepare-spec =
+    tie.close
+    (tie.spec
+    (λ c κs. search needs)
+    (λ c κs. let s = c .before .before .before in (s .pre .0, c .before .place-of .ensures .1, s .pre .3 .halls, rw (c .before .place-of .ensures .0) (s .pre .3 .from)))
+    (λ c κs. let s = c .before .before .before .before .before in (s .pre .0, c .before .before .before .place-of .ensures .1, c .before .writing-hall .ensures .1, s .pre .2, rw (c .before .writing-hall .ensures .0, c .before .before .before .place-of .ensures .0) (s .pre .4)))
+    (λ c κs. search needs)
+    (λ c κs. search needs)
+    (λ c κs. search needs)
+    (λ c. search needs)
+    (λ c. let a = c .before .before .before .before .before .before .before .before .before .before .before .before .before .before .before .before .before .before .args in
+    let clock = c .before .before .before .before .before .before .before .before .before .before .before .before .proposed-at in
+    let hall = c .before .before .before .before .before .before .before .before .before .before .before .before .before .before .writing-hall in
+    let place = c .before .before .before .before .before .before .before .before .before .before .before .before .before .before .before .before .place-of .ensures .0 in
+    let back = hybrid-alone (store (a .room .now)) (hall .result) (a .p) (clock .result) (rw (clock .ensures)) (rw (clock .ensures)) in (
+      c .before .before .put2 .ensures .0,
+      rw (clock .ensures, hall .ensures .0, place),
+      rw (c .before .before .put2 .ensures .1, c .before .before .before .before .before .before .put .ensures .1, c .before .before .before .before .before .before .before .before .before .before .put-back .ensures .1, back, clock .ensures, hall .ensures .0, place),
+    )))

@@ -1,0 +1,26 @@
+-- What each step asks of the store: what keeps its places in the room and its sums in a word.
+use Prim.Native.Nat.{ℕ, _≤_, _<_, _^_}
+use Rattle.book.specs.Sizes.{hallsMax, sessionsMax, keys, placesMax, timeMax}
+use Rattle.book.specs.Cells.{Store, Halls, Hybrid, Snapshot, LastCommit, By, From, KeySet}
+
+-- transaction number n may be there
+pub record Numbered (n : ℕ) : Type 0 where
+  pub first : 1 ≤ n
+  pub last : n ≤ placesMax
+
+-- the transaction at place t comes from one of the halls
+pub record Coordinated (σ : Store) (t : ℕ) : Type 0 where
+  pub halls : σ Halls ≤ hallsMax
+  pub from : σ (From t) < σ Halls
+
+-- the times that its session and the server (h, p) bring to a proposal leave room for one more
+pub record Timely (σ : Store) (t h p : ℕ) : Type 0 where
+  pub session : σ (By t) < sessionsMax
+  pub last : σ (LastCommit (σ (By t))) ≤ timeMax
+  pub snapshot : σ (Snapshot (σ (By t))) ≤ timeMax
+  pub hybrid : σ (Hybrid h p) ≤ timeMax
+
+-- its session is one of the room's, and it writes keys of the room alone
+pub record Writing (σ : Store) (t : ℕ) : Type 0 where
+  pub session : σ (By t) < sessionsMax
+  pub keySet : σ (KeySet t) < 2 ^ keys

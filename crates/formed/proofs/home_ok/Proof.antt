@@ -1,0 +1,15 @@
+use borrow.Author.Tests.{lt-ltb, le-ltb}
+use borrow.Author.Needs.{needs}
+use Rattle.formed.proofs.home_ok.Statement.{statement}
+use Rattle.formed.proofs.home_ok.Tie as tie
+
+pub home-ok-spec : {M : Type 1} → statement M
+home-ok-spec =
+    tie.close
+    (tie.spec
+    (λ c κs. search needs)
+    (λ c. rw (rw (c .before .get .ensures) at (le-ltb _ _ (c .if1 .taken))))
+    (λ c κs. search needs)
+    (λ c κs. search needs)
+    (λ c κs. search needs)
+    (λ c. rw (rw (c .before .before .before .before .get .ensures) at (lt-ltb _ _ (c .before .before .before .if1 .left)), ← (c .before .before .get2 .ensures), ← (c .before .get3 .ensures)) (c .holds .ensures)))

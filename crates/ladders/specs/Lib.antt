@@ -1,0 +1,2 @@
+pub mod Sized
+pub mod Unknown

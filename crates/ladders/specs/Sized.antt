@@ -1,0 +1,46 @@
+-- What the ladders ask of a store: its counts are in range, so that what is there has a cell.
+use Prim.Native.Nat.{ℕ, _-_, _≤_, _<_}
+use mathlib.Core.Bool.{true, _&&_}
+use mathlib.Core.Path.{_≡_}
+use native.Mathlib.Omega.{arith}
+use lib.Dec.{ltb, leb}
+use borrow.Author.Tests.{ltb-true, leb-true}
+use Rattle.book.specs.Sizes.{hallsMax, partitionsMax, sessionsMax, placesMax}
+use Rattle.book.specs.Cells.{Store, Halls, Partitions, Sessions, Transactions}
+use Rattle.book.specs.Cases.{and-true}
+use Rattle.book.specs.Servers.{holds}
+use Rattle.book.specs.Refusals.{sessionThere, transactionThere}
+
+pub record Sized (σ : Store) : Type 0 where
+  pub halls : σ Halls ≤ hallsMax
+  pub some : 0 < σ Partitions
+  pub partitions : σ Partitions ≤ partitionsMax
+  pub sessions : σ Sessions ≤ sessionsMax
+  pub transactions : σ Transactions ≤ placesMax
+
+-- a server that is there has cells
+pub server-in : (σ : Store) → Sized σ → (h p : ℕ) → holds σ h p ≡ true → (h < hallsMax) × (p < partitionsMax)
+server-in σ S h p e =
+    let a = and-true (ltb h (σ Halls)) _ e in
+    let b = and-true (ltb p (σ Partitions)) _ (a .1) in
+    let x = ltb-true h (σ Halls) (a .0) in
+    let y = ltb-true p (σ Partitions) (b .0) in
+    let u = S .halls in
+    let v = S .partitions in
+    (omega arith, omega arith)
+
+-- so does a session
+pub session-in : (σ : Store) → Sized σ → (s : ℕ) → sessionThere σ s ≡ true → s < sessionsMax
+session-in σ S s e =
+    let x = ltb-true s (σ Sessions) e in
+    let u = S .sessions in
+    omega arith
+
+-- and a transaction number that is there has a place
+pub transaction-in : (σ : Store) → Sized σ → (n : ℕ) → transactionThere σ n ≡ true → (1 ≤ n) × (n - 1 < placesMax)
+transaction-in σ S n e =
+    let a = and-true (leb 1 n) _ e in
+    let x = leb-true 1 n (a .0) in
+    let y = leb-true n (σ Transactions) (a .1) in
+    let u = S .transactions in
+    (omega arith, omega arith)

@@ -1,0 +1,303 @@
+// "Turned away": for each step the first number that applies, 0 where none does. The numbers are any.
+ghost use mathlib.Core.Path.{_≡_};
+ghost use Prim.Native.Nat.{_<_};
+ghost use mathlib.Core.Bool.{cond, _&&_, _||_};
+ghost use lib.ListN.{length};
+ghost use lib.Dec.{eqb, ltb, leb};
+ghost use Rattle.book.specs.Refusals.{tickRefusal, startRefusal, readRefusal, writeRefusal, endRefusal, prepareRefusal, decideRefusal, commitRefusal, installRefusal, deliverRefusal, serverRefusal, shareRefusal, sessionThere, transactionThere, unused, allPrepared};
+ghost use Rattle.book.specs.Sizes.{hallsMax, partitionsMax, keys, placesMax, slots};
+ghost use Rattle.book.specs.Cells.{Partitions, State, prepared, Waiting};
+ghost use Rattle.book.specs.Folds.{any};
+ghost use Rattle.book.specs.Servers.{holds, partitionOf};
+ghost use Rattle.book.specs.ReplicationSteps.{sendsTo};
+ghost use Rattle.room.specs.Layout.{size, store};
+ghost use Rattle.book.specs.Steps.{refusal as refusalOf};
+ghost use Rattle.ladders.specs.Sized.{Sized};
+use room::COMMIT_TIME;
+use room::HALLS;
+use room::PARTITIONS;
+use room::READING;
+use room::SESSIONS;
+use room::STATE;
+use room::STATUS;
+use room::TRANSACTIONS;
+use room::WAITING;
+use room::WRITE_SET;
+
+const READING_MAX: u64 = 281474976710655;
+
+fn when(a: bool, n: u64, rest: u64) -> u64
+    ensures { λ r. ⌜ r ≡ cond a n rest ⌝ }
+{
+    if a { n } else { rest }
+}
+
+fn both(a: bool, b: bool) -> bool
+    ensures { λ r. ⌜ r ≡ (a && b) ⌝ }
+{
+    if a { b } else { false }
+}
+
+fn either(a: bool, b: bool) -> bool
+    ensures { λ r. ⌜ r ≡ (a || b) ⌝ }
+{
+    if a { true } else { b }
+}
+
+fn session_there(room: &[u64], s: u64) -> bool
+    requires { ⌜ length (now room) ≡ size ⌝ }
+    ensures { λ r. ⌜ r ≡ sessionThere (store (now (room .entry))) s ⌝ }
+{
+    s < room::get(room, SESSIONS, 0, 0, 0, 0)
+}
+
+fn transaction_there(room: &[u64], n: u64) -> bool
+    requires { ⌜ length (now room) ≡ size ⌝ }
+    ensures { λ r. ⌜ r ≡ transactionThere (store (now (room .entry))) n ⌝ }
+{
+    both(1 <= n, n <= room::get(room, TRANSACTIONS, 0, 0, 0, 0))
+}
+
+// a session, and two numbers that are not used
+fn session_alone(room: &[u64], s: u64, y: u64, z: u64) -> bool
+    requires { ⌜ length (now room) ≡ size ⌝ }
+    ensures { λ r. ⌜ r ≡ (sessionThere (store (now (room .entry))) s && (unused y && unused z)) ⌝ }
+{
+    both(session_there(room, s), both(y == 0, z == 0))
+}
+
+fn server_there(room: &[u64], h: u64, p: u64) -> bool
+    requires { ⌜ length (now room) ≡ size ⌝ }
+    ensures { λ r. ⌜ r ≡ holds (store (now (room .entry))) h p ⌝ }
+{
+    servers::holds(room, h as usize, p as usize)
+}
+
+// a transaction's pair, and a number that is not used
+fn pair_there(room: &[u64], n: u64, p: u64, z: u64) -> bool
+    requires { ⌜ length (now room) ≡ size ⌝ }
+    ensures { λ r. ⌜ r ≡ (transactionThere (store (now (room .entry))) n && (ltb p (store (now (room .entry)) Partitions) && unused z)) ⌝ }
+{
+    both(
+        transaction_there(room, n),
+        both(p < room::get(room, PARTITIONS, 0, 0, 0, 0), z == 0),
+    )
+}
+
+pub fn tick(room: &[u64], h: u64, p: u64, x: u64) -> u64
+    requires { ⌜ (length (now room) ≡ size) × Sized (store (now room)) ⌝ }
+    ensures { λ r. ⌜ r ≡ tickRefusal (store (now (room .entry))) h p x ⌝ }
+{
+    if !server_there(room, h, p) {
+        return 3;
+    }
+    let last = room::get(room, READING, h as usize, p as usize, 0, 0);
+    when(x > READING_MAX, 4, when(x < last, 5, 0))
+}
+
+pub fn start(room: &[u64], s: u64, y: u64, z: u64) -> u64
+    requires { ⌜ (length (now room) ≡ size) × Sized (store (now room)) ⌝ }
+    ensures { λ r. ⌜ r ≡ startRefusal (store (now (room .entry))) s y z ⌝ }
+{
+    if !session_alone(room, s, y, z) {
+        return 3;
+    }
+    when(room::get(room, STATUS, s as usize, 0, 0, 0) != 0, 6, 0)
+}
+
+pub fn read(room: &[u64], s: u64, k: u64, h: u64) -> u64
+    requires { ⌜ (length (now room) ≡ size) × Sized (store (now room)) ⌝ }
+    ensures { λ r. ⌜ r ≡ readRefusal (store (now (room .entry))) s k h ⌝ }
+{
+    if !key_there(room, s, k, h) {
+        return 3;
+    }
+    when(room::get(room, STATUS, s as usize, 0, 0, 0) != 1, 7, 0)
+}
+
+pub fn write(room: &[u64], s: u64, k: u64, v: u64) -> u64
+    requires { ⌜ (length (now room) ≡ size) × Sized (store (now room)) ⌝ }
+    ensures { λ r. ⌜ r ≡ writeRefusal (store (now (room .entry))) s k v ⌝ }
+{
+    if !both(session_there(room, s), k < 32) {
+        return 3;
+    }
+    when(room::get(room, STATUS, s as usize, 0, 0, 0) != 1, 7, 0)
+}
+
+pub fn end(room: &[u64], s: u64, y: u64, z: u64) -> u64
+    requires { ⌜ (length (now room) ≡ size) × Sized (store (now room)) ⌝ }
+    ensures { λ r. ⌜ r ≡ endRefusal (store (now (room .entry))) s y z ⌝ }
+{
+    if !session_alone(room, s, y, z) {
+        return 3;
+    }
+    let status = room::get(room, STATUS, s as usize, 0, 0, 0);
+    let wrote = room::get(room, WRITE_SET, s as usize, 0, 0, 0);
+    let asked = room::get(room, TRANSACTIONS, 0, 0, 0, 0);
+    when(status != 1, 7, when(both(wrote != 0, 64 <= asked), 8, 0))
+}
+
+pub fn prepare(room: &[u64], n: u64, p: u64, z: u64) -> u64
+    requires { ⌜ (length (now room) ≡ size) × Sized (store (now room)) ⌝ }
+    ensures { λ r. ⌜ r ≡ prepareRefusal (store (now (room .entry))) n p z ⌝ }
+{
+    if !pair_there(room, n, p, z) {
+        return 3;
+    }
+    when(
+        room::get(room, STATE, (n - 1) as usize, p as usize, 0, 0) != 1,
+        9,
+        0,
+    )
+}
+
+pub fn commit(room: &[u64], n: u64, p: u64, z: u64) -> u64
+    requires { ⌜ (length (now room) ≡ size) × Sized (store (now room)) ⌝ }
+    ensures { λ r. ⌜ r ≡ commitRefusal (store (now (room .entry))) n p z ⌝ }
+{
+    if !pair_there(room, n, p, z) {
+        return 3;
+    }
+    let time = room::get(room, COMMIT_TIME, (n - 1) as usize, 0, 0, 0);
+    let state = room::get(room, STATE, (n - 1) as usize, p as usize, 0, 0);
+    when(!both(0 < time, state == 2), 9, 0)
+}
+
+pub fn decide(room: &[u64], n: u64, y: u64, z: u64) -> u64
+    requires { ⌜ (length (now room) ≡ size) × Sized (store (now room)) ⌝ }
+    ensures { λ r. ⌜ r ≡ decideRefusal (store (now (room .entry))) n y z ⌝ }
+{
+    if !both(transaction_there(room, n), both(y == 0, z == 0)) {
+        return 3;
+    }
+    let t = (n - 1) as usize;
+    let time = room::get(room, COMMIT_TIME, t, 0, 0, 0);
+    when(!both(all_prepared(room, t), !(0 < time)), 9, 0)
+}
+
+pub fn install(room: &[u64], h: u64, p: u64, z: u64) -> u64
+    requires { ⌜ (length (now room) ≡ size) × Sized (store (now room)) ⌝ }
+    ensures { λ r. ⌜ r ≡ installRefusal (store (now (room .entry))) h p z ⌝ }
+{
+    if !both(server_there(room, h, p), z == 0) {
+        return 3;
+    }
+    when(channel_full(room, h as usize, p as usize), 10, 0)
+}
+
+pub fn deliver(room: &[u64], p: u64, f: u64, g: u64) -> u64
+    requires { ⌜ (length (now room) ≡ size) × Sized (store (now room)) ⌝ }
+    ensures { λ r. ⌜ r ≡ deliverRefusal (store (now (room .entry))) p f g ⌝ }
+{
+    if !both(
+        server_there(room, f, p),
+        both(server_there(room, g, p), f != g),
+    ) {
+        return 3;
+    }
+    when(
+        room::get(room, WAITING, g as usize, p as usize, f as usize, 0) == 0,
+        11,
+        0,
+    )
+}
+
+pub fn server(room: &[u64], h: u64, p: u64, z: u64) -> u64
+    requires { ⌜ (length (now room) ≡ size) × Sized (store (now room)) ⌝ }
+    ensures { λ r. ⌜ r ≡ serverRefusal (store (now (room .entry))) h p z ⌝ }
+{
+    when(!both(server_there(room, h, p), z == 0), 3, 0)
+}
+
+pub fn share(room: &[u64], f: u64, to: u64, z: u64) -> u64
+    requires { ⌜ (length (now room) ≡ size) × Sized (store (now room)) ⌝ }
+    ensures { λ r. ⌜ r ≡ shareRefusal (store (now (room .entry))) f to z ⌝ }
+{
+    let halls = room::get(room, HALLS, 0, 0, 0, 0);
+    when(!both(f < halls, both(to < halls, z == 0)), 3, 0)
+}
+
+// a session, a key, and a hall that holds it
+fn key_there(room: &[u64], s: u64, k: u64, h: u64) -> bool
+    requires { ⌜ (length (now room) ≡ size) × Sized (store (now room)) ⌝ }
+    ensures { λ r. ⌜ r ≡ (sessionThere (store (now (room .entry))) s && (ltb k keys && holds (store (now (room .entry))) h (partitionOf (store (now (room .entry))) k))) ⌝ }
+{
+    let p = k % room::get(room, PARTITIONS, 0, 0, 0, 0);
+    both(
+        session_there(room, s),
+        both(k < 32, server_there(room, h, p)),
+    )
+}
+
+// a partition's state in which a decide may find it
+fn ready(room: &[u64], t: usize, p: usize) -> bool
+    requires { ⌜ (length (now room) ≡ size) × (t < placesMax) × (p < partitionsMax) ⌝ }
+    ensures { λ r. ⌜ r ≡ (eqb (store (now (room .entry)) (State t p)) 0 || eqb (store (now (room .entry)) (State t p)) prepared) ⌝ }
+{
+    let state = room::get(room, STATE, t, p, 0, 0);
+    either(state == 0, state == 2)
+}
+
+fn all_prepared(room: &[u64], t: usize) -> bool
+    requires { ⌜ (length (now room) ≡ size) × (t < placesMax) ⌝ }
+    ensures { λ r. ⌜ r ≡ allPrepared (store (now (room .entry))) t ⌝ }
+{
+    both(
+        ready(room, t, 3),
+        both(
+            ready(room, t, 2),
+            both(ready(room, t, 1), both(ready(room, t, 0), true)),
+        ),
+    )
+}
+
+// the channel from h to g holds 8 messages, where there is one
+fn full_to(room: &[u64], h: usize, p: usize, g: usize) -> bool
+    requires { ⌜ (length (now room) ≡ size) × (h < hallsMax) × (p < partitionsMax) × (g < hallsMax) ⌝ }
+    ensures { λ r. ⌜ r ≡ (sendsTo (store (now (room .entry))) h p g && leb slots (store (now (room .entry)) (Waiting g p h))) ⌝ }
+{
+    both(
+        both(h != g, servers::holds(room, g, p)),
+        8 <= room::get(room, WAITING, g, p, h, 0),
+    )
+}
+
+fn channel_full(room: &[u64], h: usize, p: usize) -> bool
+    requires { ⌜ (length (now room) ≡ size) × (h < hallsMax) × (p < partitionsMax) ⌝ }
+    ensures { λ r. ⌜ r ≡ any hallsMax (λ g. sendsTo (store (now (room .entry))) h p g && leb slots (store (now (room .entry)) (Waiting g p h))) ⌝ }
+{
+    either(
+        full_to(room, h, p, 3),
+        either(
+            full_to(room, h, p, 2),
+            either(
+                full_to(room, h, p, 1),
+                either(full_to(room, h, p, 0), false),
+            ),
+        ),
+    )
+}
+
+// the number given to a step, 0 where it is taken
+pub fn refusal(room: &[u64], code: u64, a: u64, b: u64, c: u64) -> u64
+    requires { ⌜ (length (now room) ≡ size) × Sized (store (now room)) ⌝ }
+    ensures { λ r. ⌜ r ≡ refusalOf (store (now (room .entry))) code a b c ⌝ }
+{
+    match code {
+        1 => tick(room, a, b, c),
+        2 => start(room, a, b, c),
+        3 => read(room, a, b, c),
+        4 => write(room, a, b, c),
+        5 => end(room, a, b, c),
+        6 => prepare(room, a, b, c),
+        7 => decide(room, a, b, c),
+        8 => commit(room, a, b, c),
+        9 => install(room, a, b, c),
+        10 => deliver(room, a, b, c),
+        11 => server(room, a, b, c),
+        12 => share(room, a, b, c),
+        13 => server(room, a, b, c),
+        _ => 3,
+    }
+}

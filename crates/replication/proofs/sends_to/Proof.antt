@@ -1,0 +1,12 @@
+use borrow.Author.Tests.{eq-eqb, ne-eqb}
+use borrow.Author.Needs.{needs}
+use Rattle.replication.proofs.sends_to.Statement.{statement}
+use Rattle.replication.proofs.sends_to.Tie as tie
+
+pub sends-to-spec : {M : Type 1} → statement M
+sends-to-spec =
+    tie.close
+    (tie.spec
+    (λ c κs. search needs)
+    (λ c. rw (ne-eqb _ _ (c .before .if1 .taken)) (c .holds .ensures))
+    (λ c. rw (eq-eqb _ _ (c .if1 .left))))

@@ -1,0 +1,4 @@
+pub mod Safe
+pub mod Lowest
+pub mod Installing
+pub mod Sending

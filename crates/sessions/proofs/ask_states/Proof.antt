@@ -1,0 +1,55 @@
+use Prim.Native.Nat.{_≤_, _-_}
+use mathlib.Core.Path.{_≡_, refl, ap, sym, _∙_}
+use native.Mathlib.Omega.{arith}
+use lib.ListN.{length}
+use borrow.Author.Needs.{needs}
+use Rattle.book.specs.Cells.{Store}
+use Rattle.book.specs.Folds.{count}
+use Rattle.book.specs.SessionSteps.{touches}
+use Rattle.room.specs.Layout.{store}
+use Rattle.room.specs.Loops.{count-next}
+use Rattle.sessions.specs.Asking.{askedAt, askedTo, asked-none, asked-next, asked-done}
+use Rattle.sessions.proofs.ask_states.Statement.{statement}
+use Rattle.sessions.proofs.ask_states.Tie as tie
+
+abbrev Inv-loop : tie.InvT-loop
+Inv-loop room₀ t m n₀ p₀ room n p =
+    (p ≤ 4)
+    × (length room ≡ length room₀)
+    × (n ≤ p)
+    × (n ≡ count p (touches (store room₀) m))
+    × (store room ≡ askedTo p (store room₀) t m)
+
+abbrev μ-loop : tie.MeasureT-loop
+μ-loop room₀ t m n₀ p₀ room n p = 4 - p
+
+loop-holds : tie.Need-loop-holds Inv-loop μ-loop
+unfolding count
+loop-holds c = (search needs, refl, search needs, refl, sym (asked-none _ _ _))
+
+pub ask-states-spec : {M : Type 1} → statement M
+ask-states-spec =
+    tie.close
+    (tie.spec
+    Inv-loop
+    μ-loop
+    loop-holds
+    (λ c κs. (search needs, rw (c .before .before .loop .inv .4) (c .before .before .before .before .pre .1), search needs, search needs, search needs))
+    (λ c. search needs)
+    (λ c. search needs)
+    (λ c. let a = c .before .before .before .before .before .before .before .args in
+    let i = c .before .before .before .before .before .loop in
+    let e = c .before .before .ask-state .ensures in (
+      search needs,
+      search needs,
+      e .2,
+      rw (count-next, ← (i .inv .3)) (rw (i .inv .4) at (e .1)),
+      e .3
+          ∙ ap (λ (τ : Store). askedAt (i .p) τ (a .t) (a .m)) (i .inv .4)
+          ∙ asked-next (i .p) (store (a .room .now)) (a .t) (a .m),
+    ))
+    (λ c. search needs)
+    (λ c. let a = c .before .before .before .args in
+    let i = c .before .loop in
+    let e : i .p ≡ 4 = omega arith in
+    (search needs, rw e at (i .inv .3), rw e at (i .inv .4) ∙ asked-done (store (a .room .now)) (a .t) (a .m) (c .before .before .before .pre .1))))

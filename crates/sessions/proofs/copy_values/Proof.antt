@@ -1,0 +1,41 @@
+use Prim.Native.Nat.{_≤_, _-_}
+use mathlib.Core.Path.{_≡_, refl, ap, sym, _∙_}
+use native.Mathlib.Omega.{arith}
+use lib.ListN.{length}
+use borrow.Author.Needs.{needs}
+use Rattle.book.specs.Cells.{Store}
+use Rattle.room.specs.Layout.{store}
+use Rattle.sessions.specs.Asking.{copiedAt, copiedTo, copied-none, copied-next, copied-done}
+use Rattle.sessions.proofs.copy_values.Statement.{statement}
+use Rattle.sessions.proofs.copy_values.Tie as tie
+
+abbrev Inv-loop : tie.InvT-loop
+Inv-loop room₀ s t k₀ room k =
+    (k ≤ 32) × (length room ≡ length room₀) × (store room ≡ copiedTo k (store room₀) s t)
+
+abbrev μ-loop : tie.MeasureT-loop
+μ-loop room₀ s t k₀ room k = 32 - k
+
+pub copy-values-spec : {M : Type 1} → statement M
+copy-values-spec =
+    tie.close
+    (tie.spec
+    Inv-loop
+    μ-loop
+    (λ c. (search needs, refl, sym (copied-none _ _ _)))
+    (λ c κs. search needs)
+    (λ c. search needs)
+    (λ c. search needs)
+    (λ c. let a = c .before .before .before .before .before .before .before .args in
+    let i = c .before .before .before .before .before .loop in (
+      search needs,
+      search needs,
+      c .before .before .copy-value .ensures .1
+          ∙ ap (λ (τ : Store). copiedAt (i .k) τ (a .s) (a .t)) (i .inv .2)
+          ∙ copied-next (i .k) (store (a .room .now)) (a .s) (a .t) (omega arith),
+    ))
+    (λ c. search needs)
+    (λ c. let a = c .before .before .before .args in
+    let i = c .before .loop in
+    let e : i .k ≡ 32 = omega arith in
+    (search needs, rw e at (i .inv .2) ∙ copied-done (store (a .room .now)) (a .s) (a .t))))

@@ -1,0 +1,18 @@
+use mathlib.Core.Path.{refl, sym, _∙_}
+use borrow.Author.Needs.{needs}
+use Rattle.book.specs.Cells.{_⟨_≔_⟩, ReadSet, ReadValue}
+use Rattle.room.specs.Layout.{store}
+use Rattle.room.specs.Bulk.{keep}
+use Rattle.sessions.proofs.told.Statement.{statement}
+use Rattle.sessions.proofs.told.Tie as tie
+
+pub told-spec : {M : Type 1} → statement M
+told-spec =
+    tie.close
+    (tie.spec
+    (λ c. search needs)
+    (λ c. search needs)
+    (λ c. (search needs, refl, rw (c .enum-told .given .1) (let a = c .before .before .before .args in let σ = store (a .room .now) in sym (keep (σ ⟨ ReadSet (a .s) ≔ σ (ReadSet (a .s)) ⟩) (ReadValue (a .s) (a .k)) ∙ keep σ (ReadSet (a .s))))))
+    (λ c κs. search needs)
+    (λ c. search needs)
+    (λ c. (search needs, rw (c .before .before .before .before .before .view .given .1), c .before .before .enter .ensures .1)))

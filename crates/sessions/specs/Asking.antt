@@ -1,0 +1,70 @@
+-- Step 5 in its parts: the request, its values, its states.
+use Prim.Native.Nat.{ℕ, suc, _+_, _%_, _≤_, _<_}
+use mathlib.Core.Bool.{true, cond, _&&_}
+use mathlib.Core.Path.{_≡_, ap, _∙_}
+use native.Mathlib.Nat.{mod-lt}
+use native.Mathlib.Omega.{arith}
+use lib.Dec.{eqb, ltb}
+use borrow.Author.Tests.{eqb-true, ltb-true, lt-ltb}
+use Rattle.book.specs.Sizes.{partitionsMax, keys}
+use Rattle.book.specs.Cells.{Cell, Store, _⟨_≔_⟩, each2, Transactions, HomeHall, Status, committing, WriteValue, By, From, KeySet, Value, State, asked}
+use Rattle.book.specs.Cases.{and-true}
+use Rattle.book.specs.Folds.{any-true}
+use Rattle.book.specs.Sets.{member}
+use Rattle.book.specs.Servers.{partitionOf}
+use Rattle.book.specs.SessionSteps.{touches}
+use Rattle.room.specs.Bulk.{row2j, upTo, begin, ahead, puts, next, done}
+use Rattle.views.specs.Merging.{Parted}
+
+-- the request of session s with the keys m, at place t
+abbrev pub requested : Store → ℕ → ℕ → ℕ → Store
+requested σ s t m =
+    σ ⟨ By t ≔ s ⟩ ⟨ From t ≔ σ (HomeHall s) ⟩ ⟨ KeySet t ≔ m ⟩ ⟨ Status s ≔ committing ⟩ ⟨ Transactions ≔ suc t ⟩
+
+-- the values that session s wrote: one key, the first n keys, all of them
+abbrev pub copiedAt : ℕ → Store → ℕ → ℕ → Store
+copiedAt k σ s t = σ ⟨ Value t k ≔ σ (WriteValue s k) ⟩
+
+abbrev pub copiedTo : ℕ → Store → ℕ → ℕ → Store
+copiedTo n σ s t = upTo (row2j 25 t) (λ d. ltb (d .j) keys) (λ d. σ (WriteValue s (d .j))) n σ
+
+abbrev pub copied : Store → ℕ → ℕ → Store
+copied σ s t = each2 Value (λ u k. eqb t u && ltb k keys) (λ u k. σ (WriteValue s k)) σ
+
+pub copied-none : (σ : Store) (s t : ℕ) → copiedTo 0 σ s t ≡ σ
+copied-none σ s t = begin (row2j 25 t) _ _ σ
+
+pub copied-next : (n : ℕ) (σ : Store) (s t : ℕ) → n < keys → copiedAt n (copiedTo n σ s t) s t ≡ copiedTo (n + 1) σ s t
+copied-next n σ s t l = puts (row2j 25 t) _ _ n σ (lt-ltb n keys l)
+
+pub copied-done : (σ : Store) (s t : ℕ) → copiedTo keys σ s t ≡ copied σ s t
+copied-done σ s t = done (row2j 25 t) _ _ keys σ (λ i l e. absurd (omega (arith, ltb-true i keys e)))
+
+-- "each becomes asked", of the partitions that have a key of m: one partition, the first n, all of them
+abbrev pub askedAt : ℕ → Store → ℕ → ℕ → Store
+askedAt p σ t m = σ ⟨ State t p ≔ cond (touches σ m p) asked (σ (State t p)) ⟩
+
+abbrev pub askedTo : ℕ → Store → ℕ → ℕ → Store
+askedTo n σ t m = upTo (row2j 26 t) (λ d. touches σ m (d .j)) (λ d. asked) n σ
+
+abbrev pub askedAll : Store → ℕ → ℕ → Store
+askedAll σ t m = each2 State (λ u p. eqb t u && touches σ m p) (λ u p. asked) σ
+
+pub asked-none : (σ : Store) (t m : ℕ) → askedTo 0 σ t m ≡ σ
+asked-none σ t m = begin (row2j 26 t) _ _ σ
+
+pub asked-next : (n : ℕ) (σ : Store) (t m : ℕ) → askedAt n (askedTo n σ t m) t m ≡ askedTo (n + 1) σ t m
+asked-next n σ t m =
+    ap (λ (x : ℕ). askedTo n σ t m ⟨ State t n ≔ cond (touches σ m n) asked x ⟩)
+    (ahead (row2j 26 t) (λ d. touches σ m (d .j)) (λ d. asked) n n σ (omega arith))
+    ∙ next (row2j 26 t) _ _ n σ
+
+-- a key's partition is one of those there are
+touches-beyond : (σ : Store) (m p : ℕ) → Parted σ → partitionsMax ≤ p → touches σ m p ≡ true → ⊥
+touches-beyond σ m p h l e =
+    let w = any-true keys (λ k. member m k && eqb (partitionOf σ k) p) e in
+    let q = and-true (member m (w .0)) (eqb (partitionOf σ (w .0)) p) (w .2) in
+    omega (arith, eqb-true (partitionOf σ (w .0)) p (q .1), mod-lt (w .0) (h .0), h .1)
+
+pub asked-done : (σ : Store) (t m : ℕ) → Parted σ → askedTo partitionsMax σ t m ≡ askedAll σ t m
+asked-done σ t m h = done (row2j 26 t) _ _ partitionsMax σ (λ i l e. absurd (touches-beyond σ m i h l e))

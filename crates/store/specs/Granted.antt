@@ -1,0 +1,155 @@
+-- What a step may rely on once its ladder has let its numbers through a well formed store.
+use Prim.Native.Nat.{ℕ, _≤_, _<_, _-_}
+use mathlib.Core.Bool.{Bool, true, false, cond, _&&_, not}
+use mathlib.Core.Path.{_≡_}
+use native.Mathlib.Omega.{arith}
+use lib.Dec.{eqb, ltb, leb}
+use borrow.Author.Tests.{ltb-true, leb-true, eqb-true}
+use Rattle.book.specs.Sizes.{hallsMax, partitionsMax, sessionsMax, keys, placesMax, readingMax, timeMax}
+use Rattle.book.specs.Cells.{Store, Halls, Partitions, Sessions, Transactions, Status, idle, running, HomeHall, HomePartition, By}
+use Rattle.book.specs.Cases.{and-true, passed}
+use Rattle.book.specs.Servers.{holds, partitionOf, placeOf, writer}
+use Rattle.book.specs.SessionSteps.{hasWrites}
+use Rattle.book.specs.Refusals.{sessionThere, transactionThere, unused, tickRefusal, startRefusal, readRefusal, writeRefusal, endRefusal, prepareRefusal, decideRefusal, commitRefusal, installRefusal, deliverRefusal, serverRefusal, shareRefusal}
+use Rattle.book.specs.WellFormed.{wellFormed, timeBound}
+use Rattle.theorems.specs.Step.{asked-for}
+use Rattle.theorems.specs.Tally.{prepared-most}
+use Rattle.theorems.specs.Formed.{Formed, Times, formed, layout, server-small, writer-small}
+use Rattle.theorems.specs.KeptSteps.{times-le}
+use Rattle.ladders.specs.Sized.{Sized, session-in, transaction-in}
+use Rattle.views.specs.Merging.{Parted}
+use Rattle.sessions.specs.Starting.{Homed}
+use Rattle.commits.specs.Safe.{Numbered, Coordinated, Timely, Writing}
+use Rattle.replication.specs.Safe.{Coordinated as AllCoordinated, Channel, Timely as AllTimely, Outgoing}
+
+module _ (σ : Store) (w : wellFormed σ ≡ true) where
+  facts : Formed σ
+  facts = formed σ w
+
+  pub sized : Sized σ
+  sized =
+      let F = facts in
+      let L = layout σ (F .setup) in
+      let m = F .places in
+      let h = server-small σ L (σ (HomeHall 0)) (σ (HomePartition 0)) (L .homes 0 (L .session)) in
+      let p = ltb-true (σ (HomePartition 0)) (σ Partitions)
+      (and-true (ltb (σ (HomePartition 0)) (σ Partitions)) _
+      (and-true (ltb (σ (HomeHall 0)) (σ Halls)) _ (L .homes 0 (L .session)) .1) .0) in
+      record { halls = L .halls; some = omega arith; partitions = L .partitions; sessions = L .sessions; transactions = m }
+
+  times : Times σ timeMax
+  times = let m = prepared-most σ in times-le σ (timeBound σ) _ (omega arith) (facts .times)
+
+  server : (h p : ℕ) → holds σ h p ≡ true → (h < hallsMax) × (p < partitionsMax)
+  server h p e = server-small σ (layout σ (facts .setup)) h p e
+
+  parted : Parted σ
+  parted = (sized .some, sized .partitions)
+
+  session : (s : ℕ) (b : Bool) (r : ℕ) → cond (not (sessionThere σ s && b)) 3 r ≡ 0 → s < sessionsMax
+  session s b r e = session-in σ sized s (and-true (sessionThere σ s) b (asked-for (sessionThere σ s && b) 3 r (omega arith) e .0) .0)
+
+  number : (n : ℕ) (b : Bool) (r : ℕ) → cond (not (transactionThere σ n && b)) 3 r ≡ 0 → Numbered n
+  number n b r e =
+      let a = and-true (leb 1 n) _ (and-true (transactionThere σ n) b (asked-for (transactionThere σ n && b) 3 r (omega arith) e .0) .0) in
+      let x = leb-true 1 n (a .0) in
+      let y = leb-true n (σ Transactions) (a .1) in
+      let m = facts .places in
+      record { first = x; last = omega arith }
+
+  partition : (n p : ℕ) (b : Bool) (r : ℕ) → cond (not (transactionThere σ n && (ltb p (σ Partitions) && b))) 3 r ≡ 0 → p < partitionsMax
+  partition n p b r e =
+      let a = and-true (transactionThere σ n) _ (asked-for (transactionThere σ n && (ltb p (σ Partitions) && b)) 3 r (omega arith) e .0) in
+      let x = ltb-true p (σ Partitions) (and-true (ltb p (σ Partitions)) b (a .1) .0) in
+      let m = sized .partitions in
+      omega arith
+
+  pub tick-in : (h p x : ℕ) → tickRefusal σ h p x ≡ 0 → (h < hallsMax) × (p < partitionsMax)
+  tick-in h p x e = server h p (asked-for (holds σ h p) 3 _ (omega arith) e .0)
+
+  pub start-in : (s y z : ℕ) → startRefusal σ s y z ≡ 0 → Homed σ s
+  start-in s y z e =
+      let a = asked-for (sessionThere σ s && (unused y && unused z)) 3 _ (omega arith) e .0 in
+      let l = ltb-true s (σ Sessions) (and-true (sessionThere σ s) _ a .0) in
+      let h = server (σ (HomeHall s)) (σ (HomePartition s)) (layout σ (facts .setup) .homes s l) in
+      (session s _ _ e, h .0, h .1)
+
+  pub read-in : (s k h : ℕ) → readRefusal σ s k h ≡ 0 → (s < sessionsMax) × (k < keys) × (h < hallsMax) × Parted σ
+  read-in s k h e =
+      let a = asked-for (sessionThere σ s && (ltb k keys && holds σ h (partitionOf σ k))) 3 _ (omega arith) e .0 in
+      let b = and-true (ltb k keys) _ (and-true (sessionThere σ s) _ a .1) in
+      (session s _ _ e, ltb-true k keys (b .0), server h (partitionOf σ k) (b .1) .0, parted)
+
+  pub write-in : (s k v : ℕ) → writeRefusal σ s k v ≡ 0 → (s < sessionsMax) × (k < keys)
+  write-in s k v e =
+      let a = asked-for (sessionThere σ s && ltb k keys) 3 _ (omega arith) e .0 in
+      (session s _ _ e, ltb-true k keys (and-true (sessionThere σ s) _ a .1))
+
+  pub end-in : (s y z : ℕ) → endRefusal σ s y z ≡ 0
+      → (s < sessionsMax) × Parted σ × ((hasWrites σ s && leb placesMax (σ Transactions)) ≡ false)
+  end-in s y z e =
+      let a = asked-for (sessionThere σ s && (unused y && unused z)) 3 _ (omega arith) e in
+      let b = asked-for (eqb (σ (Status s)) running) 7 _ (omega arith) (a .1) in
+      (session s _ _ e, parted, passed (hasWrites σ s && leb placesMax (σ Transactions)) 8 _ (omega arith) (b .1) .0)
+
+  -- the transaction at place t comes from one of the halls
+  coordinated : (t : ℕ) → t < placesMax → Coordinated σ t
+  coordinated t l = record { halls = sized .halls; from = facts .hall t l }
+
+  place : (n : ℕ) → Numbered n → placeOf n < placesMax
+  place n N = let a = N .first in let b = N .last in omega arith
+
+  pub prepare-in : (n p z : ℕ) → prepareRefusal σ n p z ≡ 0
+      → Numbered n × (p < partitionsMax) × Coordinated σ (placeOf n) × Timely σ (placeOf n) (writer σ (placeOf n) p) p
+  prepare-in n p z e =
+      let N = number n _ _ e in
+      let P = partition n p _ _ e in
+      let l = place n N in
+      let T = times in
+      let a = facts .session (placeOf n) l in
+      let b = sized .sessions in
+      let s : σ (By (placeOf n)) < sessionsMax = omega arith in (
+        N,
+        P,
+        coordinated (placeOf n) l,
+        record {
+          session = s;
+          last = T .last (σ (By (placeOf n))) s;
+          snapshot = T .snapshot (σ (By (placeOf n))) s;
+          hybrid = T .hybrid (writer σ (placeOf n) p) p (writer-small σ facts (placeOf n) p l) P;
+        },
+      )
+
+  pub decide-in : (n y z : ℕ) → decideRefusal σ n y z ≡ 0 → Numbered n × Writing σ (placeOf n)
+  decide-in n y z e =
+      let N = number n _ _ e in
+      let l = place n N in
+      let a = facts .session (placeOf n) l in
+      let b = sized .sessions in
+      (N, record { session = omega arith; keySet = facts .keys (placeOf n) l })
+
+  pub commit-in : (n p z : ℕ) → commitRefusal σ n p z ≡ 0 → Numbered n × (p < partitionsMax) × Coordinated σ (placeOf n)
+  commit-in n p z e =
+      let N = number n _ _ e in
+      (N, partition n p _ _ e, coordinated (placeOf n) (place n N))
+
+  pub server-in : (h p z : ℕ) (r : ℕ) → cond (not (holds σ h p && unused z)) 3 r ≡ 0 → (h < hallsMax) × (p < partitionsMax)
+  server-in h p z r e = server h p (and-true (holds σ h p) _ (asked-for (holds σ h p && unused z) 3 r (omega arith) e .0) .0)
+
+  pub coordinated-all : AllCoordinated σ
+  coordinated-all = record { halls = sized .halls; from = facts .hall }
+
+  pub timely : (p : ℕ) → p < partitionsMax → AllTimely σ p
+  timely p l = record { proposed = λ t m e. facts .prepared t p m l e }
+
+  pub channel : (g p f : ℕ) → g < hallsMax → p < partitionsMax → f < hallsMax → Channel σ g p f
+  channel g p f a b c = record { first = facts .first g p f a b c; waiting = facts .waiting g p f a b c }
+
+  pub share-in : (f to z : ℕ) → shareRefusal σ f to z ≡ 0 → (f < hallsMax) × (to < hallsMax)
+  share-in f to z e =
+      let a = and-true (ltb f (σ Halls)) _ (asked-for (ltb f (σ Halls) && (ltb to (σ Halls) && unused z)) 3 _ (omega arith) e .0) in
+      let b = and-true (ltb to (σ Halls)) _ (a .1) in
+      let x = ltb-true f (σ Halls) (a .0) in
+      let y = ltb-true to (σ Halls) (b .0) in
+      let m = sized .halls in
+      (omega arith, omega arith)

@@ -1,0 +1,100 @@
+-- What halls tell one another, over the steps.
+use Prim.Native.Nat.{ℕ, _≤_, _<_}
+use mathlib.Core.Bool.{true}
+use mathlib.Core.Path.{_≡_}
+use native.Mathlib.Nat.{le-trans}
+use native.Mathlib.Omega.{arith}
+use lib.Dec.{ltb}
+use borrow.Author.Tests.{ltb-true, lt-ltb}
+use Rattle.book.specs.Sizes.{hallsMax, partitionsMax}
+use Rattle.book.specs.Cells.{Store, Halls, Partitions, Stable, Entry, HomeHall, HomePartition, Snapshot, Note, Shared}
+use Rattle.book.specs.Cases.{and-true, by-cell}
+use Rattle.book.specs.Folds.{lowest-le}
+use Rattle.book.specs.Servers.{holds, atHome}
+use Rattle.book.specs.SessionSteps.{snapshot, start}
+use Rattle.book.specs.GossipSteps.{report, share, learn}
+use Rattle.theorems.specs.Inv.{Setup, GossipOver, Gossip, Inv}
+
+-- a server stands in a hall that is there, for a partition that is there
+pub holds-hall : (σ : Store) (h p : ℕ) → holds σ h p ≡ true → h < σ Halls
+holds-hall σ h p e = ltb-true h (σ Halls) (and-true (ltb h (σ Halls)) _ e .0)
+
+pub holds-partition : (σ : Store) (h p : ℕ) → holds σ h p ≡ true → p < σ Partitions
+holds-partition σ h p e =
+    ltb-true p (σ Partitions) (and-true (ltb p (σ Partitions)) _ (and-true (ltb h (σ Halls)) _ e .1) .0)
+
+-- and so it stands in one of 4 halls, for one of 4 partitions
+pub hall-fits : (σ : Store) → Setup σ → (h p : ℕ) → holds σ h p ≡ true → h < hallsMax
+hall-fits σ U h p e = le-trans (holds-hall σ h p e) (U .halls .1)
+
+pub partition-fits : (σ : Store) → Setup σ → (h p : ℕ) → holds σ h p ≡ true → p < partitionsMax
+partition-fits σ U h p e = le-trans (holds-partition σ h p e) (U .partitions .1)
+
+module _ (σ : Store) (I : Inv σ) where
+  pub report-gossip : (h p : ℕ) → Gossip (report σ h p)
+  report-gossip h p = record {
+    note = λ h′ p′ g e.
+        by-cell (Note h p) (Note h′ p′)
+        (λ q c. rw (c, ← q .i, ← q .j) (lowest-le _ _ _ g (hall-fits σ (I .setup) g p′ e) (rw (q .j) e)))
+        (λ c. rw c (I .gossip .note h′ p′ g e));
+    shared = I .gossip .shared;
+    stable = I .gossip .stable;
+    snapshot = I .gossip .snapshot;
+  }
+
+  pub share-gossip : (f to : ℕ) → Gossip (share σ f to)
+  share-gossip f to = record {
+    note = I .gossip .note;
+    shared = λ to′ f′ p g e e′.
+        by-cell (Shared to f) (Shared to′ f′)
+        (λ q c. let b = lowest-le partitionsMax (λ p. holds σ f p) (λ p. σ (Note f p)) p (partition-fits σ (I .setup) f′ p e) (rw (q .j) e) in
+        let n = I .gossip .note f p g e′ in
+        rw (c, ← q .j) (omega arith))
+        (λ c. rw c (I .gossip .shared to′ f′ p g e e′));
+    stable = I .gossip .stable;
+    snapshot = I .gossip .snapshot;
+  }
+
+  pub learn-gossip : (h p : ℕ) → Gossip (learn σ h p)
+  learn-gossip h p = record {
+    note = I .gossip .note;
+    shared = I .gossip .shared;
+    stable = λ a b h′ p′ g e e′.
+        by-cell (Stable h p) (Stable a b)
+        (λ q c. let b = lt-ltb h′ (σ Halls) (holds-hall σ h′ p′ e) in
+        let l = lowest-le hallsMax (λ f. ltb f (σ Halls)) (λ f. σ (Shared h f)) h′ (hall-fits σ (I .setup) h′ p′ e) b in
+        let n = I .gossip .shared h h′ p′ g e e′ in
+        let o = I .gossip .stable h p h′ p′ g e e′ in
+        rw c (omega arith))
+        (λ c. rw c (I .gossip .stable a b h′ p′ g e e′));
+    snapshot = I .gossip .snapshot;
+  }
+
+  pub start-gossip : (s : ℕ) → Gossip (start σ s)
+  start-gossip s = record {
+    note = I .gossip .note;
+    shared = I .gossip .shared;
+    stable = λ a b h p g e e′.
+        by-cell (atHome σ Stable s) (Stable a b)
+        (λ q c. rw c (bound h p g e e′))
+        (λ c. rw c (I .gossip .stable a b h p g e e′));
+    snapshot = λ s′ h p g e e′.
+        by-cell (Snapshot s) (Snapshot s′)
+        (λ q c. rw c (bound h p g e e′))
+        (λ c. rw c (I .gossip .snapshot s′ h p g e e′));
+  }
+    where
+      bound : (h p g : ℕ) → holds σ h p ≡ true → holds σ g p ≡ true → snapshot σ s ≤ σ (Entry h p g)
+      bound h p g e e′ =
+          let x = I .gossip .stable (σ (HomeHall s)) (σ (HomePartition s)) h p g e e′ in
+          let y = I .gossip .snapshot s h p g e e′ in
+          omega arith
+
+-- entries that grow keep it
+pub grow-gossip : (σ : Store) (E : ℕ → ℕ → ℕ → ℕ) → Gossip σ → ((h p g : ℕ) → σ (Entry h p g) ≤ E h p g) → GossipOver σ E
+grow-gossip σ E I G = record {
+  note = λ h p g e. le-trans (I .note h p g e) (G h p g);
+  shared = λ to f p g e e′. le-trans (I .shared to f p g e e′) (G f p g);
+  stable = λ a b h p g e e′. le-trans (I .stable a b h p g e e′) (G h p g);
+  snapshot = λ s h p g e e′. le-trans (I .snapshot s h p g e e′) (G h p g);
+}

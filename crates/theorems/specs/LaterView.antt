@@ -1,0 +1,136 @@
+-- What later steps leave as it was: the view at a snapshot.
+use Prim.Native.Nat.{ℕ, _≤_, _<_}
+use mathlib.Core.Bool.{Bool, true, false, _&&_, false≢true}
+use mathlib.Core.Path.{_≡_, refl, _∙_}
+use mathlib.Core.Logic.{_⊎_, ⊎-elim}
+use native.Mathlib.Nat.{mod-lt, le-trans, le-refl}
+use native.Mathlib.Omega.{arith}
+use lib.Dec.{eqb, ltb, leb}
+use borrow.Author.Tests.{eq-eqb, lt-leb}
+use Rattle.book.specs.declared.Answer.the-variants.{Read}
+use Rattle.book.specs.Sizes.{partitionsMax, keys, placesMax}
+use Rattle.book.specs.Cells.{Store, Transactions, Snapshot, CommitTime, KeySet, State, prepared, Proposed}
+use Rattle.book.specs.Cases.{by-test, by-eq, by-cell}
+use Rattle.book.specs.Folds.{largest-ge}
+use Rattle.book.specs.Sets.{member}
+use Rattle.book.specs.Servers.{partitionOf, writer}
+use Rattle.book.specs.Views.{decidedView}
+use Rattle.book.specs.SessionSteps.{snapshot, ask}
+use Rattle.book.specs.CommitSteps.{decision, decide}
+use Rattle.book.specs.Steps.{refusal, answer}
+use Rattle.book.specs.Reached.{Reached, Later}
+use Rattle.theorems.specs.Step.{Step, next, by-later}
+use Rattle.theorems.specs.Inv.{Inv, Below}
+use Rattle.theorems.specs.Gossip.{partition-fits}
+use Rattle.theorems.specs.Writer.{writer-holds}
+use Rattle.theorems.specs.Reach.{reached-inv, later-inv, later-below}
+use Rattle.theorems.specs.SnapshotRead.{mergeAll-agree, Fetches, snapshot-read}
+
+and-false : (b : Bool) → (b && false) ≡ false
+and-false true = refl
+and-false false = refl
+
+module _ (σ : Store) (I : Inv σ) (S : ℕ) (B : Below σ S) where
+  -- a transaction that writes a key and is decided now is decided above S
+  decide-above : (t k : ℕ) → k < keys → σ (CommitTime t) ≡ 0
+      → ((p : ℕ) → p < partitionsMax → (σ (State t p) ≡ 0) ⊎ (σ (State t p) ≡ prepared))
+      → member (σ (KeySet t)) k ≡ true → S < decision σ t
+  decide-above t k kb un all w =
+      let p = partitionOf σ k in
+      let kw = writer-holds σ I t p (mod-lt k (I .setup .partitions .0)) in
+      let p4 = partition-fits σ (I .setup) (writer σ t p) p kw in
+      let some = I .writes .written t k kb w in
+      let s2 : σ (State t p) ≡ prepared = ⊎-elim (λ z. absurd (omega arith)) (λ z. z) (all p p4) in
+      let a = I .clocks .above t p s2 in
+      let b = B (writer σ t p) p (writer σ t p) kw kw in
+      let c = largest-ge partitionsMax (λ p. eqb (σ (State t p)) prepared) (λ p. σ (Proposed t p)) p p4 (eq-eqb (σ (State t p)) prepared s2) in
+      omega arith
+
+  -- so what is decided now is not in the view at S
+  decide-hidden : (t k : ℕ) → k < keys → σ (CommitTime t) ≡ 0
+      → ((p : ℕ) → p < partitionsMax → (σ (State t p) ≡ 0) ⊎ (σ (State t p) ≡ prepared))
+      → (member (σ (KeySet t)) k && leb (decision σ t) S) ≡ false
+  decide-hidden t k kb un all =
+      by-test (member (σ (KeySet t)) k)
+      (λ c. rw (c, lt-leb (decision σ t) S (decide-above t k kb un all c)))
+      (λ c. rw c)
+
+  decide-view : (t k : ℕ) → k < keys → σ (CommitTime t) ≡ 0
+      → ((p : ℕ) → p < partitionsMax → (σ (State t p) ≡ 0) ⊎ (σ (State t p) ≡ prepared))
+      → decidedView (decide σ t) k S ≡ decidedView σ k S
+  decide-view t k kb un all =
+      let x = decide-hidden t k kb un all in
+      let y = and-false (ltb 0 (decision σ t)) in
+      mergeAll-agree placesMax _ _ _ _
+      (λ t′ tb. by-cell (CommitTime t) (CommitTime t′)
+      (λ q c. let z : σ (CommitTime t′) ≡ 0 = rw (← q .i) un in rw (c, z, ← q .i, x, y))
+      (λ c. rw c))
+      (λ t′ tb e. by-cell (CommitTime t) (CommitTime t′)
+      (λ q c. absurd (false≢true (rw (c, ← q .i, x, y) at e)))
+      (λ c. rw c))
+
+  -- what is asked for now is not decided
+  ask-view : (s k : ℕ) → decidedView (ask σ s) k S ≡ decidedView σ k S
+  ask-view s k =
+      let u = I .states .undecided (σ Transactions) (le-refl _) in
+      mergeAll-agree placesMax _ _ _ _
+      (λ t tb. by-eq (σ Transactions) t (λ q c. let z : σ (CommitTime t) ≡ 0 = rw (← q) u in rw z) (λ q c. rw c))
+      (λ t tb e. by-eq (σ Transactions) t (λ q c. let z : σ (CommitTime t) ≡ 0 = rw (← q) u in absurd (false≢true (rw z at e))) (λ q c. rw c))
+
+  -- the view at S of all that is decided is the same after a step
+  pub step-view : (x : Step σ) (k : ℕ) → k < keys → decidedView (next σ x) k S ≡ decidedView σ k S
+  step-view (Step.ticks h p x a b c) k kb = refl
+  step-view (Step.starts s a b) k kb = refl
+  step-view (Step.reads s j h a b c d) k kb = refl
+  step-view (Step.writes s j v a b c) k kb = refl
+  step-view (Step.asks s a b c d) k kb = ask-view s k
+  step-view (Step.rests s a b c) k kb = refl
+  step-view (Step.prepares t p a b c) k kb = refl
+  step-view (Step.decides t a b c) k kb = decide-view t k kb b c
+  step-view (Step.commits t p a b c d) k kb = refl
+  step-view (Step.installs h p a b) k kb = refl
+  step-view (Step.delivers p f g a b c d) k kb = refl
+  step-view (Step.reports h p a) k kb = refl
+  step-view (Step.shares f to a b) k kb = refl
+  step-view (Step.learns h p a) k kb = refl
+
+-- Later steps never alter the view at a session's snapshot of all that is decided. (Running or not.)
+pub later-never-alters : {σ τ : Store} → Reached σ → Later σ τ → (s k : ℕ) → k < keys
+    → decidedView τ k (σ (Snapshot s)) ≡ decidedView σ k (σ (Snapshot s))
+later-never-alters {σ} r w s k kb =
+    let I = reached-inv r in
+    let S = σ (Snapshot s) in
+    by-later (λ τ. decidedView τ k S ≡ decidedView σ k S) refl
+    (λ τ v e x. step-view τ (later-inv I v) S (later-below I S (I .gossip .snapshot s) v) x k kb ∙ e) w
+
+reached-later : {σ τ : Store} → Reached σ → Later σ τ → Reached τ
+reached-later r Later.none = r
+reached-later r (Later.more w code a b c) = Reached.onward (reached-later r w) code a b c
+
+-- However much later, as long as the session has that snapshot still, a read at any hall that holds the key answers what it would have answered.
+pub later-read : {σ τ : Store} → Reached σ → Later σ τ → (s k h : ℕ) → Fetches τ s k h → τ (Snapshot s) ≡ σ (Snapshot s)
+    → (refusal τ 3 s k h ≡ 0) × (answer τ 3 s k h ≡ Read (decidedView σ k (σ (Snapshot s))))
+later-read r w s k h f e =
+    let x = snapshot-read (reached-later r w) s k h f in
+    (x .0, x .1 ∙ rw (e, later-never-alters r w s k (f .key)))
+
+step-snapshot : (σ : Store) (x : Step σ) (s : ℕ) → σ (Snapshot s) ≤ next σ x (Snapshot s)
+step-snapshot σ (Step.ticks h p x a b c) s = le-refl _
+step-snapshot σ (Step.starts s′ a b) s = by-cell (Snapshot s′) (Snapshot s) (λ q c. rw (c, ← q .i) (omega arith)) (λ c. rw c (le-refl _))
+step-snapshot σ (Step.reads s′ k h a b c d) s = le-refl _
+step-snapshot σ (Step.writes s′ k v a b c) s = le-refl _
+step-snapshot σ (Step.asks s′ a b c d) s = le-refl _
+step-snapshot σ (Step.rests s′ a b c) s = le-refl _
+step-snapshot σ (Step.prepares t p a b c) s = le-refl _
+step-snapshot σ (Step.decides t a b c) s = le-refl _
+step-snapshot σ (Step.commits t p a b c d) s = le-refl _
+step-snapshot σ (Step.installs h p a b) s = le-refl _
+step-snapshot σ (Step.delivers p f g a b c d) s = le-refl _
+step-snapshot σ (Step.reports h p a) s = le-refl _
+step-snapshot σ (Step.shares f to a b) s = le-refl _
+step-snapshot σ (Step.learns h p a) s = le-refl _
+
+-- A session's snapshot never goes down, from any store.
+pub snapshots-rise : {σ τ : Store} → Later σ τ → (s : ℕ) → σ (Snapshot s) ≤ τ (Snapshot s)
+snapshots-rise {σ} w s =
+    by-later (λ τ. σ (Snapshot s) ≤ τ (Snapshot s)) (le-refl _) (λ τ v l x. le-trans l (step-snapshot τ x s)) w

@@ -1,0 +1,283 @@
+-- What a session wrote in earlier transactions it still sees: at its snapshot, or in its cache.
+use Prim.Native.Nat.{ℕ, _^_, _≤_, _<_}
+use mathlib.Core.Bool.{true, _&&_, false≢true}
+use mathlib.Core.Path.{_≡_, sym, _∙_}
+use mathlib.Core.Logic.{_⊎_, inl, inr, ⊎-elim}
+use native.Mathlib.Nat.{le-trans, le-refl, mod-lt}
+use native.Mathlib.Omega.{arith}
+use lib.Dec.{eqb, leb}
+use borrow.Author.Tests.{eq-eqb, ne-eqb, leb-true}
+use Rattle.book.specs.Sizes.{partitionsMax, keys}
+use Rattle.book.specs.Cells.{Store, same, _⟨_≔_⟩, Transactions, Status, idle, running, committing, Snapshot, LastCommit, WriteSet, CacheTime, By, CommitTime, KeySet, State, asked, prepared, waiting, installed, Proposed}
+use Rattle.book.specs.Cases.{by-test, by-eq, by-cell, unwritten, eqb-refl, at-same}
+use Rattle.book.specs.Folds.{largest-ge}
+use Rattle.book.specs.Sets.{member, include-lt}
+use Rattle.book.specs.Servers.{partitionOf}
+use Rattle.book.specs.SessionSteps.{snapshot, start, write, touches, ask}
+use Rattle.book.specs.CommitSteps.{prepare, decision, decide, commit}
+use Rattle.book.specs.ReplicationSteps.{installs, install}
+use Rattle.book.specs.Reached.{Reached}
+use Rattle.theorems.specs.Step.{Step, next, by-reached}
+use Rattle.theorems.specs.Inv.{Inv}
+use Rattle.theorems.specs.Clocks.{state-stays}
+use Rattle.theorems.specs.Install.{has-asked}
+use Rattle.theorems.specs.Transactions.{touches-i}
+use Rattle.theorems.specs.Begun.{some-bit}
+use Rattle.theorems.specs.Reach.{reached-inv}
+
+-- a session and its transactions
+abbrev pub Own : Store → Type 0
+Own σ = record {
+  -- a write set has no key past the last
+  sets : (s : ℕ) → σ (WriteSet s) < 2 ^ keys;
+  -- a transaction writes a partition
+  some : (t : ℕ) → t < σ Transactions → (p : ℕ) × (p < partitionsMax) × (0 < σ (State t p));
+  -- an undecided transaction's session is committing
+  busy : (t : ℕ) → t < σ Transactions → σ (CommitTime t) ≡ 0 → σ (Status (σ (By t))) ≡ committing;
+  -- and has no other that is undecided
+  one : (t u : ℕ) → t < σ Transactions → u < σ Transactions → σ (By t) ≡ σ (By u) → σ (CommitTime t) ≡ 0 → σ (CommitTime u) ≡ 0 → t ≡ u;
+  -- what it proposed is above its session's last commit time
+  ahead : (t p : ℕ) → σ (State t p) ≡ prepared → σ (CommitTime t) ≡ 0 → σ (LastCommit (σ (By t))) < σ (Proposed t p);
+  -- a commit time is at most its session's last
+  last : (t : ℕ) → σ (CommitTime t) ≤ σ (LastCommit (σ (By t)));
+  -- what was written is at or below the session's snapshot, or its key is cached at that time or later
+  kept : (t k : ℕ) → member (σ (KeySet t)) k ≡ true
+      → (σ (CommitTime t) ≤ σ (Snapshot (σ (By t)))) ⊎ (σ (CommitTime t) ≤ σ (CacheTime (σ (By t)) k));
+}
+
+module _ (σ : Store) (I : Inv σ) (O : Own σ) where
+  start-own : (s : ℕ) → σ (Status s) ≡ idle → Own (start σ s)
+  start-own s is = record {
+    sets = λ s′. by-test (same (WriteSet s) (WriteSet s′)) (λ c. rw c (omega arith)) (λ c. rw c (O .sets s′));
+    some = O .some;
+    busy = λ t b u.
+        let y = O .busy t b u in
+        by-cell (Status s) (Status (σ (By t)))
+        (λ q c. let z : σ (Status (σ (By t))) ≡ idle = rw (← q .i) is in absurd (omega arith))
+        (λ c. rw c y);
+    one = O .one;
+    ahead = O .ahead;
+    last = O .last;
+    kept = λ t k m.
+        by-eq s (σ (By t))
+        (λ q c. ⊎-elim
+        (λ l. let l′ : σ (CommitTime t) ≤ σ (Snapshot s) = rw q l in inl (rw c (omega arith)))
+        (λ l. by-test (leb (σ (CacheTime (σ (By t)) k)) (snapshot σ s))
+        (λ d. inl (rw c (le-trans l (leb-true (σ (CacheTime (σ (By t)) k)) (snapshot σ s) d))))
+        (λ d. inr (rw (c, d) l)))
+        (O .kept t k m))
+        (λ q c. rw c (O .kept t k m));
+  }
+
+  -- End, without writes
+  rest-own : (s : ℕ) → σ (Status s) ≡ running → Own (σ ⟨ Status s ≔ idle ⟩)
+  rest-own s runs = record {
+    sets = O .sets;
+    some = O .some;
+    busy = λ t b u.
+        let y = O .busy t b u in
+        by-cell (Status s) (Status (σ (By t)))
+        (λ q c. let z : σ (Status (σ (By t))) ≡ running = rw (← q .i) runs in absurd (omega arith))
+        (λ c. rw c y);
+    one = O .one;
+    ahead = O .ahead;
+    last = O .last;
+    kept = O .kept;
+  }
+
+  write-own : (s k v : ℕ) → k < keys → Own (write σ s k v)
+  write-own s k v b = record {
+    sets = λ s′. by-cell (WriteSet s) (WriteSet s′)
+        (λ q c. rw c (include-lt keys (σ (WriteSet s)) k (O .sets s) b))
+        (λ c. rw c (O .sets s′));
+    some = O .some;
+    busy = O .busy;
+    one = O .one;
+    ahead = O .ahead;
+    last = O .last;
+    kept = O .kept;
+  }
+
+  -- Prepare and Commit: a pair's state becomes v
+  state-some : (t p v : ℕ) → 0 < v → (t′ : ℕ) → t′ < σ Transactions → (p′ : ℕ) × (p′ < partitionsMax) × (0 < (σ ⟨ State t p ≔ v ⟩) (State t′ p′))
+  state-some t p v l t′ b = let w = O .some t′ b in (w .0, w .1, state-stays (same (State t p) (State t′ (w .0))) v _ l (w .2))
+
+  prepare-own : (t p : ℕ) → Own (prepare σ t p)
+  prepare-own t p = record {
+    sets = O .sets;
+    some = state-some t p prepared (omega arith);
+    busy = O .busy;
+    one = O .one;
+    ahead = λ t′ p′ e u.
+        by-cell (State t p) (State t′ p′)
+        (λ q c. rw (c, ← q .i) (omega arith))
+        (λ c. rw c (O .ahead t′ p′ (rw c at e) u));
+    last = O .last;
+    kept = O .kept;
+  }
+
+  commit-own : (t p : ℕ) → Own (commit σ t p)
+  commit-own t p = record {
+    sets = O .sets;
+    some = state-some t p waiting (omega arith);
+    busy = O .busy;
+    one = O .one;
+    ahead = λ t′ p′ e. O .ahead t′ p′ (unwritten (same (State t p) (State t′ p′)) waiting _ prepared (λ x. omega arith) e .1);
+    last = O .last;
+    kept = O .kept;
+  }
+
+  install-own : (h p : ℕ) → Own (install σ h p)
+  install-own h p = record {
+    sets = O .sets;
+    some = λ t b. let w = O .some t b in (w .0, w .1, state-stays (eqb p (w .0) && installs σ h p t) installed _ (omega arith) (w .2));
+    busy = O .busy;
+    one = O .one;
+    ahead = λ t p′ e. O .ahead t p′ (unwritten (eqb p p′ && installs σ h p t) installed _ prepared (λ x. omega arith) e .1);
+    last = O .last;
+    kept = O .kept;
+  }
+
+  -- End, with writes: the new transaction stands at the next place
+  module _ (s : ℕ) (runs : σ (Status s) ≡ running) (wrote : σ (WriteSet s) ≡ 0 → ⊥) where
+    -- the session has none that is undecided
+    done-before : (u : ℕ) → u < σ Transactions → σ (CommitTime u) ≡ 0 → s ≡ σ (By u) → ⊥
+    done-before u b z q =
+        let x = O .busy u b z in
+        let y : σ (Status (σ (By u))) ≡ running = rw (← q) runs in
+        omega arith
+
+    ask-own : Own (ask σ s)
+    ask-own = record {
+      sets = O .sets;
+      some = λ t b. by-eq (σ Transactions) t
+          (λ q c.
+          let k = some-bit keys (σ (WriteSet s)) (omega arith) (O .sets s) in
+          let l = mod-lt (k .0) (I .setup .partitions .0) in
+          let z = touches-i σ (σ (WriteSet s)) (k .0) (k .1) (k .2) in
+          (partitionOf σ (k .0), le-trans l (I .setup .partitions .1), rw (c, z) (omega arith)))
+          (λ q c. let w = O .some t (omega arith) in (w .0, w .1, rw c (w .2)));
+      busy = λ t b u. by-eq (σ Transactions) t
+          (λ q c. rw (c, eqb-refl s))
+          (λ q c. let b′ : t < σ Transactions = omega arith in
+          by-cell (Status s) (Status (σ (By t)))
+          (λ r d. absurd (done-before t b′ u (r .i)))
+          (λ d. rw (c, d) (O .busy t b′ u)));
+      one = λ t u a b e x y. by-eq (σ Transactions) t
+          (λ q c. by-eq (σ Transactions) u
+          (λ q′ c′. sym q ∙ q′)
+          (λ q′ c′. absurd (done-before u (omega arith) y (rw (c, c′) at e))))
+          (λ q c. by-eq (σ Transactions) u
+          (λ q′ c′. absurd (done-before t (omega arith) x (sym (rw (c, c′) at e))))
+          (λ q′ c′. O .one t u (omega arith) (omega arith) (rw (c, c′) at e) x y));
+      ahead = λ t p e u.
+          let e′ = unwritten (eqb (σ Transactions) t && touches σ (σ (WriteSet s)) p) asked (σ (State t p)) prepared (λ x. omega arith) e .1 in
+          let b = has-asked σ I t p (omega arith) in
+          rw (ne-eqb (σ Transactions) t (λ q. omega arith)) (O .ahead t p e′ u);
+      last = λ t. by-eq (σ Transactions) t
+          (λ q c. let z = I .states .undecided t (omega arith) in omega arith)
+          (λ q c. rw c (O .last t));
+      kept = λ t k m. by-eq (σ Transactions) t
+          (λ q c. let z = I .states .undecided t (omega arith) in inl (omega arith))
+          (λ q c. rw c (O .kept t k (rw c at m)));
+    }
+
+  -- Decide
+  module _ (t : ℕ) (there : t < σ Transactions) (un : σ (CommitTime t) ≡ 0)
+      (all : (p : ℕ) → p < partitionsMax → (σ (State t p) ≡ 0) ⊎ (σ (State t p) ≡ prepared)) where
+    -- the commit time is above the session's last
+    decision-above : σ (LastCommit (σ (By t))) < decision σ t
+    decision-above =
+        let w = O .some t there in
+        let e : σ (State t (w .0)) ≡ prepared = ⊎-elim (λ z. absurd (omega arith)) (λ z. z) (all (w .0) (w .1)) in
+        le-trans (O .ahead t (w .0) e un)
+        (largest-ge partitionsMax (λ p. eqb (σ (State t p)) prepared) (λ p. σ (Proposed t p)) (w .0) (w .1) (eq-eqb (σ (State t (w .0))) prepared e))
+
+    -- one that is undecided after it is another, of another session
+    still : (u : ℕ) → u < σ Transactions → decide σ t (CommitTime u) ≡ 0 → (σ (CommitTime u) ≡ 0) × (σ (By t) ≡ σ (By u) → ⊥)
+    still u b z =
+        let d = decision-above in
+        by-cell (CommitTime t) (CommitTime u)
+        (λ q c. let z′ : decision σ t ≡ 0 = rw c at z in absurd (omega arith))
+        (λ c. let z′ : σ (CommitTime u) ≡ 0 = rw c at z in
+        (z′, λ q. let e = O .one t u there b q un z′ in false≢true (sym c ∙ rw e (at-same (CommitTime u)))))
+
+    -- of this session, none is above it
+    most : (u : ℕ) → σ (By t) ≡ σ (By u) → decide σ t (CommitTime u) ≤ decision σ t
+    most u q =
+        let d = decision-above in
+        let l : σ (CommitTime u) ≤ σ (LastCommit (σ (By t))) = rw q (O .last u) in
+        by-test (same (CommitTime t) (CommitTime u)) (λ c. rw c (le-refl _)) (λ c. rw c (omega arith))
+
+    other : (u : ℕ) → (σ (By t) ≡ σ (By u) → ⊥) → decide σ t (CommitTime u) ≡ σ (CommitTime u)
+    other u n = by-cell (CommitTime t) (CommitTime u) (λ q c. absurd (n (rw (q .i)))) (λ c. rw c)
+
+    decide-own : Own (decide σ t)
+    decide-own = record {
+      sets = λ s. by-test (same (WriteSet (σ (By t))) (WriteSet s)) (λ c. rw c (omega arith)) (λ c. rw c (O .sets s));
+      some = O .some;
+      busy = λ u b z.
+          let w = still u b z in
+          by-cell (Status (σ (By t))) (Status (σ (By u)))
+          (λ q c. absurd (w .1 (q .i)))
+          (λ c. rw c (O .busy u b (w .0)));
+      one = λ u v a b e x y. O .one u v a b e (still u a x .0) (still v b y .0);
+      ahead = λ u p e z.
+          let w = still u (has-asked σ I u p (omega arith)) z in
+          by-cell (LastCommit (σ (By t))) (LastCommit (σ (By u)))
+          (λ q c. absurd (w .1 (q .i)))
+          (λ c. rw c (O .ahead u p e (w .0)));
+      last = λ u. by-eq (σ (By t)) (σ (By u))
+          (λ q c. rw c (most u q))
+          (λ q c. rw (other u q, c) (O .last u));
+      kept = λ u k m. by-eq (σ (By t)) (σ (By u))
+          (λ q c. by-test (member (σ (KeySet t)) k)
+          (λ e. inr (rw (c, e) (most u q)))
+          (λ e. by-cell (CommitTime t) (CommitTime u)
+          (λ r d. absurd (false≢true (sym e ∙ rw (r .i) m)))
+          (λ d. rw (d, c, e) (O .kept u k m))))
+          (λ q c. rw (other u q, c) (O .kept u k m));
+    }
+
+  step-own : (x : Step σ) → Own (next σ x)
+  step-own (Step.ticks h p x a b c) = O
+  step-own (Step.starts s a b) = start-own s b
+  step-own (Step.reads s k h a b c d) = O
+  step-own (Step.writes s k v a b c) = write-own s k v b
+  step-own (Step.asks s a b c d) = ask-own s b c
+  step-own (Step.rests s a b c) = rest-own s b
+  step-own (Step.prepares t p a b c) = prepare-own t p
+  step-own (Step.decides t a b c) = decide-own t a b c
+  step-own (Step.commits t p a b c d) = commit-own t p
+  step-own (Step.installs h p a b) = install-own h p
+  step-own (Step.delivers p f g a b c d) = O
+  step-own (Step.reports h p a) = O
+  step-own (Step.shares f to a b) = O
+  step-own (Step.learns h p a) = O
+
+pub reached-own : {σ : Store} → Reached σ → Own σ
+reached-own =
+    by-reached Own
+    (λ masks homes z. record {
+      sets = λ s. omega arith;
+      some = λ t b. absurd (omega arith);
+      busy = λ t b u. absurd (omega arith);
+      one = λ t u a b e x y. absurd (omega arith);
+      ahead = λ t p e u. absurd (omega arith);
+      last = λ t. omega arith;
+      kept = λ t k m. inl (omega arith);
+    })
+    (λ σ r O x. step-own σ (reached-inv r) O x)
+
+-- A running session sees what it wrote: each of its transactions is decided, and what it wrote to a key is at or below the session's snapshot, or the
+-- key is cached at that time or later.
+pub own-writes : {σ : Store} → Reached σ → (s t : ℕ) → σ (Status s) ≡ running → t < σ Transactions → σ (By t) ≡ s
+    → (0 < σ (CommitTime t))
+    × ((k : ℕ) → member (σ (KeySet t)) k ≡ true → (σ (CommitTime t) ≤ σ (Snapshot s)) ⊎ (σ (CommitTime t) ≤ σ (CacheTime s k)))
+own-writes {σ} r s t runs b q =
+    let O = reached-own r in (
+      by-eq (σ (CommitTime t)) 0
+          (λ z _. let y : σ (Status s) ≡ committing = rw q at (O .busy t b z) in absurd (omega arith))
+          (λ z _. omega arith),
+      λ k m. rw q at (O .kept t k m),
+    )

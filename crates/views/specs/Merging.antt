@@ -1,0 +1,31 @@
+-- The view of a key, one transaction after another.
+use Prim.Native.Nat.{ℕ, _≤_, _<_}
+use mathlib.Core.Bool.{cond, _&&_}
+use mathlib.Core.Path.{_≡_, refl}
+use mathlib.Core.List.{List}
+use lib.ListN.{length}
+use Rattle.book.specs.declared.View.{View}
+use Rattle.book.specs.declared.View.the-variants.{Nothing, Seen}
+use Rattle.book.specs.Sizes.{hallsMax, partitionsMax, keys, placesMax}
+use Rattle.book.specs.Cells.{Store, Partitions}
+use Rattle.book.specs.Servers.{partitionOf}
+use Rattle.book.specs.Views.{merge, version, versionsOf, wroteBy}
+use Rattle.room.specs.Layout.{size, store}
+
+-- "1 to 4 partitions"
+abbrev pub Parted : Store → Type 0
+Parted σ = (0 < σ Partitions) × (σ Partitions ≤ partitionsMax)
+
+-- what a look at one transaction asks of a room: its length, a hall, key k's partition, a key and a place
+abbrev pub Looks : List ℕ → ℕ → ℕ → ℕ → ℕ → Type 0
+Looks r h p k t =
+    (length r ≡ size) × (h < hallsMax) × (p < partitionsMax) × (p ≡ partitionOf (store r) k) × (k < keys) × (t < placesMax)
+
+-- nothing adds nothing
+pub merge-nothing : (a : View) → merge a Nothing ≡ a
+merge-nothing Nothing = refl
+merge-nothing (Seen v s) = refl
+
+-- the view so far, with what transaction t adds to it at hall h's server
+abbrev pub joined : Store → ℕ → ℕ → ℕ → ℕ → View → View
+joined σ h k S t sofar = merge sofar (cond (versionsOf σ h k t && wroteBy σ k S t) (version σ k t) Nothing)

@@ -1,0 +1,42 @@
+#!/bin/sh
+# Builds second and gen, and holds each printout against the one kept beside its script.
+# scripts/example.expect was typed from the page; gen-KIND-SEED.script must be what gen writes.
+here=$(CDPATH='' cd -- "$(dirname -- "$0")" && pwd) || exit 1
+work=${TMPDIR:-/tmp}/second-check.$$
+(umask 077 && mkdir "$work") || exit 1
+trap 'rm -rf "$work"' EXIT
+trap 'exit 1' HUP INT TERM
+
+build() {
+    out=$1
+    shift
+    "${CC:-cc}" -std=c11 -O2 -Wall -Wextra -Werror -o "$work/$out" "$@" && return
+    echo "second: $out does not build"
+    exit 1
+}
+cd "$here" || exit 1
+build second second.c store.c
+build gen gen.c store.c
+
+differs() {
+    echo "second: $1 differs"
+    cmp "$2" "$3"
+    exit 1
+}
+count=0
+[ -f scripts/example.expect ] || { echo "second: the page's example is missing"; exit 1; }
+for script in scripts/*.script; do
+    name=$(basename "$script" .script)
+    "$work/second" <"$script" >"$work/printout" || { echo "second: $name failed"; exit 1; }
+    cmp -s "$work/printout" "scripts/$name.expect" ||
+        differs "$name" "$work/printout" "scripts/$name.expect"
+    case $name in
+    gen-*)
+        rest=${name#gen-}
+        "$work/gen" "${rest%-*}" "${rest##*-}" >"$work/script" || exit 1
+        cmp -s "$work/script" "$script" || differs "$name.script" "$work/script" "$script"
+        ;;
+    esac
+    count=$((count + 1))
+done
+echo "second: $count scripts agree"
