@@ -1,0 +1,1 @@
+// Running a script: the whole printout of a text.
