@@ -1,6 +1,6 @@
 -- How far counts go, and the highest that passes.
-use Prim.Native.Nat.{ℕ, zero, suc, _+_, _*_, _≤_, _<_}
-use mathlib.Core.Bool.{Bool, true, false, cond}
+use Prim.Native.Nat.{ℕ, zero, suc, _+_, _*_, _≤_}
+use mathlib.Core.Bool.{Bool, false, cond}
 use mathlib.Core.Path.{_≡_, refl}
 use native.Mathlib.Numerals.{add-one}
 use native.Mathlib.Omega.{arith}
@@ -11,6 +11,7 @@ use Rattle.book.specs.Cases.{by-test}
 use Rattle.book.specs.Folds.{any, count, sum, largest, largest-within}
 use Rattle.formed.specs.Blocks.{preparedAt}
 
+-- a count of n is at most n; a sum of n counts of partitions at most n times their number
 pub count-le : (n : ℕ) (ok : ℕ → Bool) → count n ok ≤ n
 unfolding count
 count-le zero ok = omega arith

@@ -1,0 +1,4 @@
+pub mod Outcome
+pub mod Rows
+pub mod Copies
+pub mod Laid
