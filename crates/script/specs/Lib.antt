@@ -1,5 +1,7 @@
 pub mod Printout
 pub mod Length
 pub mod Run
+pub mod Begun
+pub mod Parts
 pub mod Page
 pub mod Standin

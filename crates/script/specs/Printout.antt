@@ -99,12 +99,6 @@ pub counted-is : (text : List ℕ) (at : ℕ) (σ : Store)
 unfolding countedFrom
 counted-is text at σ = refl
 
-pub setup-is : (masks homes text : List ℕ) (at : ℕ) (σ : Store) → setupFrom masks homes text at σ ≡
-    before (lineOf 0 (numbers (setupAnswer masks homes)))
-    (cond (eqb (setupRefusal masks homes) 0) (countedFrom text at (firstStore masks homes)) (only [] σ))
-unfolding setupFrom
-setup-is masks homes text at σ = refl
-
 pub sessions-is : (masks text : List ℕ) (at : ℕ) (σ : Store) → let x = sectionAt sessionsMax 2 text at in sessionsFrom masks text at σ ≡
     onSection (x .end) (stop σ) (refused σ) (λ n p. setupFrom masks (x .got) text (p .at) σ)
 unfolding sessionsFrom
