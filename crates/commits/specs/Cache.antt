@@ -32,10 +32,10 @@ round R ok v n σ =
 
 module _ (t s x m : ℕ) where
   abbrev values : Row
-  values = row2j 19 s
+  values = row2j (CacheValue s 0 .kind) s
 
   abbrev times : Row
-  times = row2j 20 s
+  times = row2j (CacheTime s 0 .kind) s
 
   abbrev among : Cell → Bool
   among d = member m (d .j)
@@ -54,16 +54,16 @@ module _ (t s x m : ℕ) where
   cached-next n σ =
       let v : Cell → ℕ = λ d. σ (Value t (d .j)) in
       upd (CacheTime s n) _ (round values among v n (timesTo n σ))
-      ∙ commute 20 19 (same (CacheTime s n)) _ _ v (timesTo n σ) refl
+      ∙ commute (CacheTime s n .kind) (CacheValue s n .kind) (same (CacheTime s n)) _ _ v (timesTo n σ) refl
       ∙ ap (λ (τ : Store). upTo values among v (n + 1) τ) (round times among (λ d. x) n σ)
 
   -- a set of the room's keys has none beyond them
-  beyond : (σ : Store) → m < 2 ^ keys → (i y z : ℕ) → keys ≤ i → member m i ≡ true → y ≡ z
-  beyond σ l i y z b e = absurd (true≢false (sym e ∙ member-beyond keys m i l b))
+  beyond : m < 2 ^ keys → (i y z : ℕ) → keys ≤ i → member m i ≡ true → y ≡ z
+  beyond l i y z b e = absurd (true≢false (sym e ∙ member-beyond keys m i l b))
 
   pub cached-all : (σ : Store) → m ≡ σ (KeySet t) → m < 2 ^ keys → cachedTo keys σ ≡ cached σ t s x
   cached-all σ e l =
       rw (← e)
-      (done values among (λ d. σ (Value t (d .j))) keys (timesTo keys σ) (λ i b f. beyond σ l i _ _ b f)
+      (done values among (λ d. σ (Value t (d .j))) keys (timesTo keys σ) (λ i b f. beyond l i _ _ b f)
       ∙ ap (λ (τ : Store). bulk (values .test among) (λ d. σ (Value t (d .j))) τ)
-      (done times among (λ d. x) keys σ (λ i b f. beyond σ l i _ _ b f)))
+      (done times among (λ d. x) keys σ (λ i b f. beyond l i _ _ b f)))

@@ -13,12 +13,12 @@ pub record Coordinated (σ : Store) (t : ℕ) : Type 0 where
   pub halls : σ Halls ≤ hallsMax
   pub from : σ (From t) < σ Halls
 
--- the times that its session and the server (h, p) bring to a proposal leave room for one more
-pub record Timely (σ : Store) (t h p : ℕ) : Type 0 where
+-- the times that its session and a server of p bring to a proposal leave room for one more
+pub record Timely (σ : Store) (t p : ℕ) : Type 0 where
   pub session : σ (By t) < sessionsMax
   pub last : σ (LastCommit (σ (By t))) ≤ timeMax
   pub snapshot : σ (Snapshot (σ (By t))) ≤ timeMax
-  pub hybrid : σ (Hybrid h p) ≤ timeMax
+  pub hybrid : (h : ℕ) → h < hallsMax → σ (Hybrid h p) ≤ timeMax
 
 -- its session is one of the room's, and it writes keys of the room alone
 pub record Writing (σ : Store) (t : ℕ) : Type 0 where

@@ -4,7 +4,7 @@ ghost use Prim.Native.Nat.{_<_, _^_};
 ghost use lib.ListN.{length};
 ghost use Rattle.book.specs.Sizes.{hallsMax, partitionsMax, sessionsMax, keys as keysMax, placesMax};
 ghost use Rattle.book.specs.Cells.{By, KeySet};
-ghost use Rattle.book.specs.Servers.{placeOf, writer};
+ghost use Rattle.book.specs.Servers.{placeOf};
 ghost use Rattle.book.specs.CommitSteps.{prepare as preparedStore, proposal, decide as decidedStore, decision, commit as committedStore, commitment};
 ghost use Rattle.room.specs.Layout.{size, store};
 ghost use Rattle.commits.specs.Proposals.{proposedFor, laterProposal};
@@ -55,7 +55,7 @@ fn session_of(room: &[u64], t: usize) -> usize
 
 // The clock of server (h, p) with what it proposes for the transaction at place t.
 fn proposed_at(room: &[u64], t: usize, h: usize, p: usize) -> Clock
-    requires { ⌜ (length (now room) ≡ size) × (t < placesMax) × (h < hallsMax) × (p < partitionsMax) × Timely (store (now room)) t h p ⌝ }
+    requires { ⌜ (length (now room) ≡ size) × (t < placesMax) × (h < hallsMax) × (p < partitionsMax) × Timely (store (now room)) t p ⌝ }
     ensures { λ r. ⌜ r ≡ proposedFor (store (now (room .entry))) t h p ⌝ }
 {
     let s = session_of(room, t);
@@ -66,7 +66,7 @@ fn proposed_at(room: &[u64], t: usize, h: usize, p: usize) -> Clock
 
 // 6. "At the writing server, proposed time = .. The hybrid clock becomes it. Answers it."
 pub fn prepare(room: &mut [u64], n: TxNumber, p: usize) -> Answer
-    requires { ⌜ (length (now room) ≡ size) × Numbered (n .0) × (p < partitionsMax) × Coordinated (store (now room)) (placeOf (n .0)) × Timely (store (now room)) (placeOf (n .0)) (writer (store (now room)) (placeOf (n .0)) p) p ⌝ }
+    requires { ⌜ (length (now room) ≡ size) × Numbered (n .0) × (p < partitionsMax) × Coordinated (store (now room)) (placeOf (n .0)) × Timely (store (now room)) (placeOf (n .0)) p ⌝ }
     ensures { λ r. ⌜ (length (now (room .exit)) ≡ size) × (r ≡ Answer.Answered (proposal (store (now (room .entry))) (placeOf (n .0)) p) 0) × (store (now (room .exit)) ≡ preparedStore (store (now (room .entry))) (placeOf (n .0)) p) ⌝ }
 {
     let t = place_of(n);

@@ -1,6 +1,6 @@
 -- The transactions that an install installs, as a set.
-use Prim.Native.Nat.{ℕ, zero, suc, _+_, _<_, _≤_}
-use mathlib.Core.Bool.{Bool, true, false, cond, _&&_}
+use Prim.Native.Nat.{ℕ, zero, suc, _<_, _≤_}
+use mathlib.Core.Bool.{Bool, true, false, _&&_}
 use mathlib.Core.Path.{_≡_, refl}
 use mathlib.Core.List.{List}
 use native.Mathlib.Omega.{arith}
@@ -10,19 +10,11 @@ use Rattle.book.specs.Sizes.{placesMax}
 use Rattle.book.specs.Cells.{Store, each2, CommitTime, State, waiting, installed}
 use Rattle.book.specs.Cases.{by-test}
 use Rattle.book.specs.Folds.{count}
-use Rattle.book.specs.Sets.{member, include, setOf, member-setOf, size}
+use Rattle.book.specs.Sets.{member, setOf, member-setOf, size}
 use Rattle.book.specs.Servers.{writer}
 use Rattle.book.specs.ReplicationSteps.{installs}
 use Rattle.room.specs.Layout.{store}
 use Rattle.room.specs.Words.{store-beyond}
-
--- the set m, with t in it if it passes
-abbrev pub includeIf : Bool → ℕ → ℕ → ℕ
-includeIf b m t = cond b (include m t) m
-
-pub setOf-none : (ok : ℕ → Bool) → 0 ≡ setOf 0 ok
-unfolding setOf
-setOf-none ok = refl
 
 -- how many of the first n pass does not go by what the others do
 count-same : (n : ℕ) (f g : ℕ → Bool) → ((t : ℕ) → t < n → f t ≡ g t) → count n f ≡ count n g
@@ -38,6 +30,7 @@ size-setOf ok = count-same placesMax (member (setOf placesMax ok)) ok (λ t l. r
 abbrev pub due : Store → ℕ → ℕ → ℕ → ℕ → Bool
 due σ h p v t = eqb (σ (State t p)) waiting && (eqb (writer σ t p) h && leb (σ (CommitTime t)) v)
 
+-- the tests of `due`, the first two of them together
 pub both-first : (a b x : Bool) → (a && (b && x)) ≡ ((a && b) && x)
 both-first true b x = refl
 both-first false b x = refl

@@ -1,4 +1,6 @@
 pub mod Safe
-pub mod Lowest
+pub mod ClockAfter
 pub mod Installing
 pub mod Sending
+pub mod Installed
+pub mod Delivering

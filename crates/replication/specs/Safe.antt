@@ -18,5 +18,6 @@ pub record Channel (σ : Store) (g p f : ℕ) : Type 0 where
 pub record Timely (σ : Store) (p : ℕ) : Type 0 where
   pub proposed : (t : ℕ) → t < placesMax → σ (State t p) ≡ prepared → 1 ≤ σ (Proposed t p)
 
+-- so has every channel that server (h, p) may send through
 pub record Outgoing (σ : Store) (h p : ℕ) : Type 0 where
   pub channels : (g : ℕ) → g < hallsMax → Channel σ g p h

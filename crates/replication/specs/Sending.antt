@@ -1,6 +1,6 @@
 -- "One message with these and the version clock goes to each other holder": hall by hall, and all of them.
 use Prim.Native.Nat.{ℕ, suc, _+_}
-use mathlib.Core.Bool.{Bool, true, false, cond, _&&_, not}
+use mathlib.Core.Bool.{Bool, true, false, cond, _&&_}
 use mathlib.Core.Path.{_≡_, refl, sym, ap, _∙_}
 use mathlib.Core.List.{List}
 use native.Mathlib.Omega.{arith}
@@ -38,11 +38,13 @@ messagesTo ok σ h p c m τ =
 abbrev pub messages : Store → ℕ → ℕ → ℕ → ℕ → Store → Store
 messages σ h p c m τ = messagesTo (sendsTo σ h p) σ h p c m τ
 
+-- either way of a test comes to z
 pick : {A : Type 0} (b : Bool) (x y z : A) → (b ≡ true → x ≡ z) → (b ≡ false → y ≡ z) → cond b x y ≡ z
 pick true x y z f g = f refl
 pick false x y z f g = g refl
 
 module _ (σ : Store) (h p c m : ℕ) where
+  -- the rows of a message's clock, of its set and of the counts, and what a count becomes
   abbrev to : Cell → Bool
   to d = sendsTo σ h p (d .i)
 
@@ -58,6 +60,7 @@ module _ (σ : Store) (h p c m : ℕ) where
   abbrev oneMore : Cell → ℕ
   oneMore d = suc (σ (Waiting (d .i) (d .j) (d .k)))
 
+  -- the rows as far as the first n halls
   abbrev clocks : ℕ → Store → Store
   clocks n τ = upTo clockRow to (λ d. c) n τ
 
@@ -101,21 +104,24 @@ module _ (σ : Store) (h p c m : ℕ) where
       ∙ commute 29 30 _ _ _ _ _ refl
       ∙ ap (clocks (n + 1)) (commute 29 31 _ _ _ _ _ refl ∙ ap (sets (n + 1)) z)
 
+  -- a round that sends nothing
   skipped : (n : ℕ) → sendsTo σ h p n ≡ false → sentBelow n ≡ sentBelow (n + 1)
   skipped n e =
       skips clockRow to (λ d. c) n (sets n (counts n σ)) e
       ∙ ap (clocks (n + 1)) (skips setRow to (λ d. m) n (counts n σ) e ∙ ap (sets (n + 1)) (skips countRow to oneMore n σ e))
 
+  -- a round
   pub sent-next : (n : ℕ) → sentIf (sentBelow n) h p n c m ≡ sentBelow (n + 1)
   sent-next n = pick (sendsTo σ h p n) _ _ _ (λ e. rw (same-waiting n) (sends n e)) (skipped n)
 
--- a room has no hall past its last, so that is all
 module _ (r : List ℕ) (h p c m : ℕ) where
+  -- a room has no hall past its last
   each-hall : (g : ℕ) → (ltb g hallsMax && sendsTo (store r) h p g) ≡ sendsTo (store r) h p g
   each-hall g =
       by-test (ltb g hallsMax)
       (λ e. rw e)
       (λ e. rw (e, none-beyond r g p (ltb-false g hallsMax e)) (by-test (eqb h g) (λ q. rw q) (λ q. rw q)))
 
+  -- so those are all messages
   pub sent-all : sentBelow (store r) h p c m hallsMax ≡ messages (store r) h p c m (store r)
   sent-all = ap (λ (ok : ℕ → Bool). messagesTo ok (store r) h p c m (store r)) (λ x g. each-hall g x)

@@ -4,17 +4,19 @@ ghost use mathlib.Core.Bool.{true, cond, _&&_};
 ghost use Prim.Native.Nat.{_<_, _≤_};
 ghost use lib.ListN.{length};
 ghost use lib.Dec.{eqb};
-ghost use Rattle.book.specs.Sizes.{hallsMax, partitionsMax, placesMax};
-ghost use Rattle.book.specs.Cells.{State, Proposed};
-ghost use Rattle.book.specs.Sets.{setOf};
+ghost use Rattle.book.specs.Sizes.{hallsMax, partitionsMax, placesMax, slots};
+ghost use Rattle.book.specs.Cells.{State, Proposed, First, Waiting};
+ghost use Rattle.book.specs.Sets.{include, setOf};
 ghost use Rattle.book.specs.Servers.{writer};
-ghost use Rattle.book.specs.ReplicationSteps.{preparedAt, sendsTo};
+ghost use Rattle.book.specs.ReplicationSteps.{preparedAt, versionClock, sendsTo, numberInstalled, install as installedStore, clockCarried, numberCarried, deliver as deliveredStore};
 ghost use Rattle.room.specs.Layout.{size, store};
+ghost use Rattle.times.specs.Lowest.{joined};
 ghost use Rattle.clocks.specs.Clocks.{clockOf};
 ghost use Rattle.replication.specs.Safe.{Coordinated, Channel, Timely, Outgoing};
-ghost use Rattle.replication.specs.Lowest.{lowBelow, joined, installedClock};
-ghost use Rattle.replication.specs.Installing.{includeIf, due, marked};
+ghost use Rattle.replication.specs.ClockAfter.{lowestProposed, installedClock};
+ghost use Rattle.replication.specs.Installing.{due, marked};
 ghost use Rattle.replication.specs.Sending.{sent, sentIf, messages};
+ghost use Rattle.replication.specs.Delivering.{carried, freed};
 use book::Answer;
 use book::Clock;
 use book::Timestamp;
@@ -25,8 +27,12 @@ use room::FIRST;
 use room::PROPOSED;
 use room::STATE;
 use room::WAITING;
+use times::Lowest;
+use times::join;
 use times::larger;
-use times::lower;
+use times::none;
+use vectors::updated;
+use vectors::vector_of;
 
 // Whether the transaction at place t is in that state for p, and h is its writing hall.
 fn is_at(room: &[u64], h: usize, p: usize, t: usize, state: u64) -> bool
@@ -36,48 +42,20 @@ fn is_at(room: &[u64], h: usize, p: usize, t: usize, state: u64) -> bool
     room::get(room, STATE, t, p, 0, 0) == state && servers::writing_hall(room, t, p) == h
 }
 
-// The lowest of some times, if there are any.
-struct Lowest {
-    some: bool,
-    time: Timestamp,
-}
-
-fn with_time(l: Lowest, x: Timestamp) -> Lowest
-    ensures { λ r. ⌜ r ≡ joined l (x .0) ⌝ }
-{
-    if l.some {
-        let time = l.time;
-        Lowest {
-            some: true,
-            time: lower(x, time),
-        }
-    } else {
-        Lowest {
-            some: true,
-            time: x,
-        }
-    }
-}
-
 fn with_prepared(room: &[u64], h: usize, p: usize, t: usize, l: Lowest) -> Lowest
     requires { ⌜ (length (now room) ≡ size) × (p < partitionsMax) × (t < placesMax) × Coordinated (store (now room)) ⌝ }
-    ensures { λ r. ⌜ r ≡ cond (preparedAt (store (now (room .entry))) h p t) (joined l (store (now (room .entry)) (Proposed t p))) l ⌝ }
+    ensures { λ r. ⌜ r ≡ joined l (preparedAt (store (now (room .entry))) h p t) (store (now (room .entry)) (Proposed t p)) ⌝ }
 {
-    if is_at(room, h, p, t, 2) {
-        with_time(l, Timestamp(room::get(room, PROPOSED, t, p, 0, 0)))
-    } else {
-        l
-    }
+    let x = Timestamp(room::get(room, PROPOSED, t, p, 0, 0));
+    join(l, is_at(room, h, p, t, 2), x)
 }
 
+// The lowest proposed time of those that are prepared at server (h, p), if there are any.
 fn lowest_prepared(room: &[u64], h: usize, p: usize) -> Lowest
     requires { ⌜ (length (now room) ≡ size) × (p < partitionsMax) × Coordinated (store (now room)) ⌝ }
-    ensures { λ r. ⌜ r ≡ lowBelow (store (now (room .entry))) h p placesMax ⌝ }
+    ensures { λ r. ⌜ r ≡ lowestProposed (store (now (room .entry))) h p placesMax ⌝ }
 {
-    let mut l = Lowest {
-        some: false,
-        time: Timestamp(0),
-    };
+    let mut l = none();
     for t in 0..64 {
         l = with_prepared(room, h, p, t, l);
     }
@@ -105,12 +83,12 @@ fn installed(mut c: Clock, l: Lowest) -> Clock
 // The clock of server (h, p) after an install.
 fn clock_after(room: &[u64], h: usize, p: usize) -> Clock
     requires { ⌜ (length (now room) ≡ size) × (h < hallsMax) × (p < partitionsMax) × Coordinated (store (now room)) × Timely (store (now room)) p ⌝ }
-    ensures { λ r. ⌜ r ≡ installedClock (clockOf (store (now (room .entry))) h p) (lowBelow (store (now (room .entry))) h p placesMax) ⌝ }
+    ensures { λ r. ⌜ r ≡ installedClock (clockOf (store (now (room .entry))) h p) (lowestProposed (store (now (room .entry))) h p placesMax) ⌝ }
 {
     installed(clocks::take(room, h, p), lowest_prepared(room, h, p))
 }
 
-// "Every waiting transaction with commit time at or below the version clock is installed."
+// "Every waiting transaction with commit time at or below the version clock"
 fn is_due(room: &[u64], h: usize, p: usize, version: Timestamp, t: usize) -> bool
     requires { ⌜ (length (now room) ≡ size) × (p < partitionsMax) × (t < placesMax) × Coordinated (store (now room)) ⌝ }
     ensures { λ r. ⌜ r ≡ due (store (now (room .entry))) h p (version .0) t ⌝ }
@@ -120,7 +98,7 @@ fn is_due(room: &[u64], h: usize, p: usize, version: Timestamp, t: usize) -> boo
 
 fn with_due(room: &[u64], h: usize, p: usize, version: Timestamp, t: usize, set: u64) -> u64
     requires { ⌜ (length (now room) ≡ size) × (p < partitionsMax) × (t < placesMax) × Coordinated (store (now room)) ⌝ }
-    ensures { λ r. ⌜ r ≡ includeIf (due (store (now (room .entry))) h p (version .0) t) set t ⌝ }
+    ensures { λ r. ⌜ r ≡ cond (due (store (now (room .entry))) h p (version .0) t) (include set t) set ⌝ }
 {
     if is_due(room, h, p, version, t) {
         masks::with(set, t as u64)
@@ -150,14 +128,21 @@ fn mark_installed(room: &mut [u64], p: usize, set: u64)
     }
 }
 
-fn send(room: &mut [u64], h: usize, p: usize, g: usize, clock: Timestamp, set: u64)
+// What goes through a channel: a version clock, and the set of the transactions that were installed with it.
+struct Message {
+    clock: Timestamp,
+    set: u64,
+}
+
+fn send(room: &mut [u64], h: usize, p: usize, g: usize, m: Message)
     requires { ⌜ (length (now room) ≡ size) × (h < hallsMax) × (p < partitionsMax) × (g < hallsMax) × Channel (store (now room)) g p h ⌝ }
-    ensures { λ r. ⌜ (length (now (room .exit)) ≡ size) × (store (now (room .exit)) ≡ sent (store (now (room .entry))) h p g (clock .0) set) ⌝ }
+    ensures { λ r. ⌜ (length (now (room .exit)) ≡ size) × (store (now (room .exit)) ≡ sent (store (now (room .entry))) h p g (m .clock .0) (m .set)) ⌝ }
 {
+    let first = room::get(room, FIRST, g, p, h, 0);
     let waiting = room::get(room, WAITING, g, p, h, 0);
-    let slot = ((room::get(room, FIRST, g, p, h, 0) + waiting) % 8) as usize;
-    room::put(room, CLOCK_SENT, g, p, h, slot, clock.0);
-    room::put(room, CARRIES, g, p, h, slot, set);
+    let slot = ((first + waiting) % 8) as usize;
+    room::put(room, CLOCK_SENT, g, p, h, slot, m.clock.0);
+    room::put(room, CARRIES, g, p, h, slot, m.set);
     room::put(room, WAITING, g, p, h, 0, waiting + 1);
 }
 
@@ -168,21 +153,71 @@ fn sends_to(room: &[u64], h: usize, p: usize, g: usize) -> bool
     h != g && servers::holds(room, g, p)
 }
 
-fn send_to(room: &mut [u64], h: usize, p: usize, g: usize, clock: Timestamp, set: u64)
+fn send_to(room: &mut [u64], h: usize, p: usize, g: usize, m: Message)
     requires { ⌜ (length (now room) ≡ size) × (h < hallsMax) × (p < partitionsMax) × (g < hallsMax) × Channel (store (now room)) g p h ⌝ }
-    ensures { λ r. ⌜ (length (now (room .exit)) ≡ size) × (store (now (room .exit)) ≡ sentIf (store (now (room .entry))) h p g (clock .0) set) ⌝ }
+    ensures { λ r. ⌜ (length (now (room .exit)) ≡ size) × (store (now (room .exit)) ≡ sentIf (store (now (room .entry))) h p g (m .clock .0) (m .set)) ⌝ }
 {
     if sends_to(room, h, p, g) {
-        send(room, h, p, g, clock, set);
+        send(room, h, p, g, m);
     }
 }
 
-// "One message with these and the version clock goes to each other holder, even if empty."
-fn send_to_all(room: &mut [u64], h: usize, p: usize, clock: Timestamp, set: u64)
+// "One message with these and the version clock goes to each other holder"
+fn send_to_all(room: &mut [u64], h: usize, p: usize, m: Message)
     requires { ⌜ (length (now room) ≡ size) × (h < hallsMax) × (p < partitionsMax) × Outgoing (store (now room)) h p ⌝ }
-    ensures { λ r. ⌜ (length (now (room .exit)) ≡ size) × (store (now (room .exit)) ≡ messages (store (now (room .entry))) h p (clock .0) set (store (now (room .entry)))) ⌝ }
+    ensures { λ r. ⌜ (length (now (room .exit)) ≡ size) × (store (now (room .exit)) ≡ messages (store (now (room .entry))) h p (m .clock .0) (m .set) (store (now (room .entry)))) ⌝ }
 {
     for g in 0..4 {
-        send_to(room, h, p, g, clock, set);
+        send_to(room, h, p, g, m);
     }
+}
+
+// 9. "Every waiting transaction with commit time at or below the version clock is installed. .. Answers the version clock and the number installed."
+pub fn install(room: &mut [u64], h: usize, p: usize) -> Answer
+    requires { ⌜ (length (now room) ≡ size) × (h < hallsMax) × (p < partitionsMax) × Coordinated (store (now room)) × Timely (store (now room)) p × Outgoing (store (now room)) h p ⌝ }
+    ensures { λ r. ⌜ (length (now (room .exit)) ≡ size) × (r ≡ Answer.Answered (versionClock (store (now (room .entry))) h p) (numberInstalled (store (now (room .entry))) h p)) × (store (now (room .exit)) ≡ installedStore (store (now (room .entry))) h p) ⌝ }
+{
+    let c = clock_after(room, h, p);
+    let clock = c.version;
+    let set = due_set(room, h, p, clock);
+    room::stretch::install(room, h, p, c.hybrid, clock, set);
+    mark_installed(room, p, set);
+    // No install is quiet: a message goes out "even if empty".
+    send_to_all(room, h, p, Message { clock, set });
+    Answer::Answered(clock.0, masks::count(set))
+}
+
+// The oldest message of the channel to g for p from f.
+fn oldest(room: &[u64], p: usize, f: usize, g: usize) -> Message
+    requires { ⌜ (length (now room) ≡ size) × (p < partitionsMax) × (f < hallsMax) × (g < hallsMax) × (store (now room) (First g p f) < slots) ⌝ }
+    ensures { λ r. ⌜ r ≡ carried (store (now (room .entry))) p f g ⌝ }
+{
+    let slot = room::get(room, FIRST, g, p, f, 0) as usize;
+    Message {
+        clock: Timestamp(room::get(room, CLOCK_SENT, g, p, f, slot)),
+        set: room::get(room, CARRIES, g, p, f, slot),
+    }
+}
+
+// "Its place is free again."
+fn free_place(room: &mut [u64], p: usize, f: usize, g: usize)
+    requires { ⌜ (length (now room) ≡ size) × (p < partitionsMax) × (f < hallsMax) × (g < hallsMax) × (store (now room) (First g p f) < slots) × (1 ≤ store (now room) (Waiting g p f)) ⌝ }
+    ensures { λ r. ⌜ (length (now (room .exit)) ≡ size) × (store (now (room .exit)) ≡ freed (store (now (room .entry))) p f g) ⌝ }
+{
+    let first = room::get(room, FIRST, g, p, f, 0);
+    let waiting = room::get(room, WAITING, g, p, f, 0);
+    room::put(room, FIRST, g, p, f, 0, (first + 1) % 8);
+    room::put(room, WAITING, g, p, f, 0, waiting - 1);
+}
+
+// 10. "Takes the oldest message, installs its transactions, sets the entry for the sender. Answers the clock carried and the number installed."
+pub fn deliver(room: &mut [u64], p: usize, f: usize, g: usize) -> Answer
+    requires { ⌜ (length (now room) ≡ size) × (p < partitionsMax) × (f < hallsMax) × (g < hallsMax) × (store (now room) (First g p f) < slots) × (1 ≤ store (now room) (Waiting g p f)) ⌝ }
+    ensures { λ r. ⌜ (length (now (room .exit)) ≡ size) × (r ≡ Answer.Answered (clockCarried (store (now (room .entry))) p f g) (numberCarried (store (now (room .entry))) p f g)) × (store (now (room .exit)) ≡ deliveredStore (store (now (room .entry))) p f g) ⌝ }
+{
+    let m = oldest(room, p, f, g);
+    let v = updated(vector_of(room, g, p), f, m.clock);
+    room::stretch::deliver(room, g, p, v, m.set);
+    free_place(room, p, f, g);
+    Answer::Answered(m.clock.0, masks::count(m.set))
 }

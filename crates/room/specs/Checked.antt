@@ -1,4 +1,4 @@
--- The tables, tested by computing: every cell of the room lies in it and is found again from its word, and every word is a cell's.
+-- The layout, tested by computing.
 use Prim.Native.Nat.{ℕ, _+_}
 use mathlib.Core.Bool.{Bool, true, _&&_}
 use mathlib.Core.Path.{_≡_, refl}
@@ -9,6 +9,7 @@ use Rattle.book.specs.Folds.{all}
 use Rattle.room.specs.Updates.{is}
 use Rattle.room.specs.Layout.{size, kinds, countI, countJ, countK, countL, at, valid, lastKind, cellAt, stretch, start}
 
+-- every cell lies in the room, and is found again from its word
 abbrev pub found : Cell → Bool
 found c = let d = cellAt (at c) in ltb (at c) size && is d c
 
@@ -19,6 +20,7 @@ pub each-cell :
 unfolding all cellAt lastKind
 each-cell = refl
 
+-- every word is the word of a cell of the room
 abbrev pub named : ℕ → Bool
 named w = let c = cellAt w in eqb (at c) w && valid c
 
@@ -30,6 +32,7 @@ each-word = refl
 abbrev pub ofServer : ℕ → ℕ → Cell → Bool
 ofServer h p c = leb 5 (c .kind) && (leb (c .kind) 9 && (eqb h (c .i) && eqb p (c .j)))
 
+-- every word of a stretch is a cell's of that server
 pub each-stretch :
     all hallsMax
     (λ h. all partitionsMax (λ p. all stretch (λ o. ofServer h p (cellAt (start h p + o)))))

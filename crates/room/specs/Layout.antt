@@ -79,13 +79,12 @@ Within c =
     × (c .l < countL (c .kind))
 
 -- the same as a test
-abbrev pub fits : Cell → Bool
-fits c =
-    ltb (c .i) (countI (c .kind))
-    && (ltb (c .j) (countJ (c .kind)) && (ltb (c .k) (countK (c .kind)) && ltb (c .l) (countL (c .kind))))
-
 unfoldable pub valid : Cell → Bool
-valid c = ltb (c .kind) kinds && fits c
+valid c =
+    ltb (c .kind) kinds
+    && (ltb (c .i) (countI (c .kind))
+    && (ltb (c .j) (countJ (c .kind))
+    && (ltb (c .k) (countK (c .kind)) && ltb (c .l) (countL (c .kind)))))
 
 -- a room as a store: a cell of the room has what its word has, and any other cell 0
 unfoldable pub store : List ℕ → Store
@@ -100,6 +99,7 @@ lastKind (suc n) w = let rest = lastKind n w in cond (ltb w (base n)) rest n
 abbrev pub kindIn : ℕ → ℕ → ℕ → ℕ → ℕ
 kindIn a step n w = lastKind n (a + (w - a) % step)
 
+-- the kind that has the word w: block by block
 abbrev pub kindAt : ℕ → ℕ
 kindAt w =
     cond (ltb w 8) (kindIn 0 8 5 w)

@@ -1,5 +1,5 @@
--- What a code loop needs: each fold of the book at the counter plus one.
-use Prim.Native.Nat.{ℕ, _+_, _<_, min, max}
+-- What a code loop needs: each fold of the book at the counter plus one, and what a count and a sum do not pass.
+use Prim.Native.Nat.{ℕ, zero, suc, _+_, _*_, _≤_, _<_, min, max}
 use mathlib.Core.Bool.{Bool, true, false, cond, _&&_, _||_, true≢false}
 use mathlib.Core.Path.{_≡_, refl, sym, _∙_}
 use native.Mathlib.Numerals.{add-one}
@@ -31,9 +31,20 @@ pub count-next : (n : ℕ) (ok : ℕ → Bool) → count (n + 1) ok ≡ cond (ok
 unfolding count
 count-next n ok = rw (add-one n, add-one (count n ok))
 
+pub count-le : (n : ℕ) (ok : ℕ → Bool) → count n ok ≤ n
+unfolding count
+count-le zero ok = omega arith
+count-le (suc n) ok =
+    let ih = count-le n ok in by-test (ok n) (λ e. rw e (omega arith)) (λ e. rw e (omega arith))
+
 pub sum-next : (n : ℕ) (f : ℕ → ℕ) → sum (n + 1) f ≡ sum n f + f n
 unfolding sum
 sum-next n f = rw (add-one n) (omega arith)
+
+pub sum-le : (n b : ℕ) (f : ℕ → ℕ) → ((i : ℕ) → f i ≤ b) → sum n f ≤ n * b
+unfolding sum
+sum-le zero b f h = omega arith
+sum-le (suc n) b f h = let ih = sum-le n b f h in omega (arith, h n)
 
 pub lowest-next : (n : ℕ) (ok : ℕ → Bool) (f : ℕ → ℕ)
     → lowest (n + 1) ok f ≡ cond (ok n) (cond (any n ok) (min (f n) (lowest n ok f)) (f n)) (lowest n ok f)

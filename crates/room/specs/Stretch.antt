@@ -10,8 +10,9 @@ use lib.ListN.{length, getD, set, take, drop, List·getD-append}
 use lib.Seq.{getD-set-same, getD-set-other, getD-take, getD-drop, getD-append-add, length-take-le}
 use borrow.Author.Tests.{eqb-true, ltb-true, ltb-false, leb-true, leb-false, lt-ltb, le-leb}
 use borrow.Rule.Slice.PartMut.{putMid, midOf, postOf}
+use Rattle.book.specs.declared.Vector.{Vector}
 use Rattle.book.specs.Sizes.{hallsMax, partitionsMax, placesMax}
-use Rattle.book.specs.Cells.{Cell, cell, Store, _⟨_≔_⟩, each3, Held}
+use Rattle.book.specs.Cells.{Cell, cell, Store, _⟨_≔_⟩, each3, Entry, Held}
 use Rattle.book.specs.Cases.{by-test, by-eq, and-true}
 use Rattle.book.specs.Folds.{all-at}
 use Rattle.book.specs.Sets.{member}
@@ -184,15 +185,16 @@ module _ (r : List ℕ) (h p k : ℕ) (hl : length r ≡ size) (hh : h < hallsMa
       ∙ rw q))
       (λ f. rw f)
 
-  -- such a change of the part is that change of the room
-  pub lift : (F : Store → Store) → Keeps h p F → (ys : List ℕ) → length ys ≡ stretch
-      → local h p ys ≡ F (local h p (midOf (start h p) k r))
-      → store (putMid (start h p) k r ys) ≡ F (store r)
-  lift F keeps ys e m =
-      (λ x c. back ys c e x)
-      ∙ ap (λ (τ : Store). glue h p τ (store r)) m
-      ∙ sym (keeps (local h p (midOf (start h p) k r)) (store r))
-      ∙ ap F (λ x c. lent c x)
+-- Such a change of the part, k words from the word a on, is that change of the room.
+pub lift : (r : List ℕ) (h p a k : ℕ) → length r ≡ size → h < hallsMax → p < partitionsMax → a ≡ start h p → k ≡ stretch
+    → (F : Store → Store) → Keeps h p F → (ys : List ℕ) → length ys ≡ stretch
+    → local h p ys ≡ F (local h p (midOf a k r)) → store (putMid a k r ys) ≡ F (store r)
+lift r h p a k hl hh hp ha hk F keeps ys e m =
+    rw ha
+    ((λ x c. back r h p k hl hh hp hk ys c e x)
+    ∙ ap (λ (τ : Store). glue h p τ (store r)) (rw ha at m)
+    ∙ sym (keeps (local h p (midOf (start h p) k r)) (store r))
+    ∙ ap F (λ x c. lent r h p k hl hh hp hk c x))
 
 -- What a function on a part did: read as any server's stretch, it was changed by F.
 abbrev pub Changed : (ℕ → ℕ → Store → Store) → List ℕ → List ℕ → Type 0
@@ -204,3 +206,20 @@ heldAll m h p σ = each3 Held (λ a q t. eqb h a && (eqb p q && (ltb t placesMax
 
 pub keeps-held : (m h p : ℕ) → h < hallsMax → p < partitionsMax → Keeps h p (heldAll m h p)
 keeps-held m h p hh hp = keeps-row h p (row3k 9 h p) (λ d. member m (d .k)) (λ d. 1) placesMax (λ t l. omega arith)
+
+-- what a version vector says of hall g
+abbrev pub entryOf : Vector → ℕ → ℕ
+entryOf v g = getD (v .times) g (record { 0 = 0 }) .0
+
+-- server (h, p)'s entries from a version vector
+abbrev pub withEntries : Vector → ℕ → ℕ → Store → Store
+withEntries v h p σ =
+    σ ⟨ Entry h p 0 ≔ entryOf v 0 ⟩ ⟨ Entry h p 1 ≔ entryOf v 1 ⟩ ⟨ Entry h p 2 ≔ entryOf v 2 ⟩ ⟨ Entry h p 3 ≔ entryOf v 3 ⟩
+
+pub keeps-entries : (v : Vector) (h p : ℕ) → h < hallsMax → p < partitionsMax → Keeps h p (withEntries v h p)
+keeps-entries v h p hh hp =
+    let entry : (g x : ℕ) → g < hallsMax → Keeps h p (λ σ. σ ⟨ Entry h p g ≔ x ⟩)
+    = λ g x l. keeps-put h p (Entry h p g) x (omega arith) in
+    keeps-then h p _ _ (entry 3 (entryOf v 3) (omega arith))
+    (keeps-then h p _ _ (entry 2 (entryOf v 2) (omega arith))
+    (keeps-then h p _ _ (entry 1 (entryOf v 1) (omega arith)) (entry 0 (entryOf v 0) (omega arith))))

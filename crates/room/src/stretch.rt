@@ -5,21 +5,45 @@ ghost use Prim.Native.Nat.{_<_};
 ghost use lib.ListN.{length};
 ghost use Rattle.book.specs.Sizes.{hallsMax, partitionsMax, placesMax};
 ghost use Rattle.book.specs.Cells.{Hybrid, Entry, Held, _⟨_≔_⟩};
-ghost use Rattle.room.specs.Layout.{size, store, stretch};
-ghost use Rattle.room.specs.Stretch.{Changed, heldAll};
+ghost use Rattle.room.specs.Layout.{size, store, stretch, start};
+ghost use Rattle.room.specs.Stretch.{Changed, heldAll, withEntries};
+use book::Timestamp;
+use book::Vector;
 
-fn set_hybrid(part: &mut [u64], v: u64)
-    requires { ⌜ length (now part) ≡ stretch ⌝ }
-    ensures { λ r. ⌜ Changed (λ h p σ. σ ⟨ Hybrid h p ≔ v ⟩) (now (part .entry)) (now (part .exit)) ⌝ }
+// Its words.
+const STRETCH: usize = 71;
+
+// The first word of server (h, p)'s stretch.
+fn first_word(h: usize, p: usize) -> usize
+    requires { ⌜ (h < hallsMax) × (p < partitionsMax) ⌝ }
+    ensures { λ r. ⌜ r ≡ start h p ⌝ }
 {
-    part[1] = v;
+    8 + STRETCH * (4 * h + p)
 }
 
-fn set_entry(part: &mut [u64], g: usize, v: u64)
-    requires { ⌜ (length (now part) ≡ stretch) × (g < hallsMax) ⌝ }
-    ensures { λ r. ⌜ Changed (λ h p σ. σ ⟨ Entry h p g ≔ v ⟩) (now (part .entry)) (now (part .exit)) ⌝ }
+fn set_hybrid(part: &mut [u64], x: Timestamp)
+    requires { ⌜ length (now part) ≡ stretch ⌝ }
+    ensures { λ r. ⌜ Changed (λ h p σ. σ ⟨ Hybrid h p ≔ x .0 ⟩) (now (part .entry)) (now (part .exit)) ⌝ }
 {
-    part[3 + g] = v;
+    part[1] = x.0;
+}
+
+fn set_entry(part: &mut [u64], g: usize, x: Timestamp)
+    requires { ⌜ (length (now part) ≡ stretch) × (g < hallsMax) ⌝ }
+    ensures { λ r. ⌜ Changed (λ h p σ. σ ⟨ Entry h p g ≔ x .0 ⟩) (now (part .entry)) (now (part .exit)) ⌝ }
+{
+    part[3 + g] = x.0;
+}
+
+fn set_entries(part: &mut [u64], v: Vector)
+    requires { ⌜ length (now part) ≡ stretch ⌝ }
+    ensures { λ r. ⌜ Changed (withEntries v) (now (part .entry)) (now (part .exit)) ⌝ }
+{
+    let times = v.times;
+    set_entry(part, 0, times[0]);
+    set_entry(part, 1, times[1]);
+    set_entry(part, 2, times[2]);
+    set_entry(part, 3, times[3]);
 }
 
 fn hold_if(part: &mut [u64], test: bool, t: usize)
@@ -41,39 +65,46 @@ fn hold_all(part: &mut [u64], set: u64)
 }
 
 // What an install writes to its server's stretch.
-pub fn install_at(part: &mut [u64], g: usize, hybrid: u64, version: u64, set: u64)
+pub fn install_at(part: &mut [u64], g: usize, hybrid: Timestamp, version: Timestamp, set: u64)
     requires { ⌜ (length (now part) ≡ stretch) × (g < hallsMax) ⌝ }
-    ensures { λ r. ⌜ Changed (λ h p σ. heldAll set h p (σ ⟨ Hybrid h p ≔ hybrid ⟩ ⟨ Entry h p g ≔ version ⟩)) (now (part .entry)) (now (part .exit)) ⌝ }
+    ensures { λ r. ⌜ Changed (λ h p σ. heldAll set h p (σ ⟨ Hybrid h p ≔ hybrid .0 ⟩ ⟨ Entry h p g ≔ version .0 ⟩)) (now (part .entry)) (now (part .exit)) ⌝ }
 {
     set_hybrid(part, hybrid);
     set_entry(part, g, version);
     hold_all(part, set);
 }
 
-// What a delivery from hall f writes to its server's stretch.
-pub fn deliver_at(part: &mut [u64], f: usize, clock: u64, set: u64)
-    requires { ⌜ (length (now part) ≡ stretch) × (f < hallsMax) ⌝ }
-    ensures { λ r. ⌜ Changed (λ h p σ. heldAll set h p (σ ⟨ Entry h p f ≔ clock ⟩)) (now (part .entry)) (now (part .exit)) ⌝ }
+// What a delivery writes to its server's stretch: the vector that comes of it.
+pub fn deliver_at(part: &mut [u64], v: Vector, set: u64)
+    requires { ⌜ length (now part) ≡ stretch ⌝ }
+    ensures { λ r. ⌜ Changed (λ h p σ. heldAll set h p (withEntries v h p σ)) (now (part .entry)) (now (part .exit)) ⌝ }
 {
-    set_entry(part, f, clock);
+    set_entries(part, v);
     hold_all(part, set);
 }
 
-// The same of server (h, p), whose stretch is lent on.
-pub fn install(room: &mut [u64], h: usize, p: usize, hybrid: u64, version: u64, set: u64)
+// The two, of server (h, p), whose stretch is lent on.
+pub fn install(
+    room: &mut [u64],
+    h: usize,
+    p: usize,
+    hybrid: Timestamp,
+    version: Timestamp,
+    set: u64,
+)
     requires { ⌜ (length (now room) ≡ size) × (h < hallsMax) × (p < partitionsMax) ⌝ }
-    ensures { λ r. ⌜ (length (now (room .exit)) ≡ size) × (store (now (room .exit)) ≡ heldAll set h p (store (now (room .entry)) ⟨ Hybrid h p ≔ hybrid ⟩ ⟨ Entry h p h ≔ version ⟩)) ⌝ }
+    ensures { λ r. ⌜ (length (now (room .exit)) ≡ size) × (store (now (room .exit)) ≡ heldAll set h p (store (now (room .entry)) ⟨ Hybrid h p ≔ hybrid .0 ⟩ ⟨ Entry h p h ≔ version .0 ⟩)) ⌝ }
 {
-    let a = 8 + 71 * (4 * h + p);
-    let e = a + 71;
+    let a = first_word(h, p);
+    let e = a + STRETCH;
     install_at(&mut room[a..e], h, hybrid, version, set);
 }
 
-pub fn deliver(room: &mut [u64], h: usize, p: usize, f: usize, clock: u64, set: u64)
-    requires { ⌜ (length (now room) ≡ size) × (h < hallsMax) × (p < partitionsMax) × (f < hallsMax) ⌝ }
-    ensures { λ r. ⌜ (length (now (room .exit)) ≡ size) × (store (now (room .exit)) ≡ heldAll set h p (store (now (room .entry)) ⟨ Entry h p f ≔ clock ⟩)) ⌝ }
+pub fn deliver(room: &mut [u64], h: usize, p: usize, v: Vector, set: u64)
+    requires { ⌜ (length (now room) ≡ size) × (h < hallsMax) × (p < partitionsMax) ⌝ }
+    ensures { λ r. ⌜ (length (now (room .exit)) ≡ size) × (store (now (room .exit)) ≡ heldAll set h p (withEntries v h p (store (now (room .entry))))) ⌝ }
 {
-    let a = 8 + 71 * (4 * h + p);
-    let e = a + 71;
-    deliver_at(&mut room[a..e], f, clock, set);
+    let a = first_word(h, p);
+    let e = a + STRETCH;
+    deliver_at(&mut room[a..e], v, set);
 }

@@ -1,16 +1,18 @@
 -- The public face: what a step answers and what room it leaves, for any room and any four numbers.
 use Prim.Native.Nat.{ℕ}
 use mathlib.Core.Bool.{Bool, true, cond, _&&_}
-use mathlib.Core.Path.{_≡_, sym, _∙_}
+use mathlib.Core.Path.{_≡_, refl, sym, ap, _∙_}
 use mathlib.Core.List.{List}
 use lib.Dec.{eqb}
 use lib.ListN.{length}
+use borrow.Author.Tests.{eq-eqb, ne-eqb}
 use Rattle.book.specs.declared.Answer.{Answer}
 use Rattle.book.specs.declared.Answer.the-variants.{Refused}
-use Rattle.book.specs.Steps.{after, answer}
+use Rattle.book.specs.Cells.{Store}
+use Rattle.book.specs.Steps.{ruleOf, refusal, after, answer, refused-unchanged}
 use Rattle.book.specs.WellFormed.{wellFormed}
 use Rattle.room.specs.Layout.{size, store}
-use Rattle.room.specs.Lay.{lay, onto}
+use Rattle.room.specs.Lay.{lay, lay-store, onto}
 
 -- 1: "room of wrong length; or, except at setup, a room that isn't well formed"
 abbrev pub sound : List ℕ → Bool
@@ -44,3 +46,20 @@ pub one-outcome-inner : {r : List ℕ} {code a b c : ℕ} {x y : Answer} {late l
     → Moved r code a b c x late → Moved r code a b c y later → (x ≡ y) × (late ≡ later)
 one-outcome-inner {late = late} {later = later} s t =
     (s .answer ∙ sym (t .answer), onto late later (s .size) (t .size) (s .store ∙ sym (t .store)))
+
+-- a step that is turned away, and one that is taken
+pub turned-away : (σ : Store) (code a b c n : ℕ) → n ≡ refusal σ code a b c → (n ≡ 0 → ⊥)
+    → (Refused n ≡ answer σ code a b c) × (σ ≡ after σ code a b c)
+unfolding answer
+turned-away σ code a b c n e f =
+    let m : refusal σ code a b c ≡ 0 → ⊥ = λ z. f (e ∙ z) in
+    (rw (e, ne-eqb (refusal σ code a b c) 0 m), sym (refused-unchanged σ code a b c m .0))
+
+pub taken : (σ : Store) (code a b c : ℕ) → refusal σ code a b c ≡ 0
+    → (ruleOf σ code a b c .answer ≡ answer σ code a b c) × (ruleOf σ code a b c .after ≡ after σ code a b c)
+unfolding answer after
+taken σ code a b c e = (rw (eq-eqb (refusal σ code a b c) 0 e), rw (eq-eqb (refusal σ code a b c) 0 e))
+
+-- the inner step's promise is the public one's, where the room is sound
+pub moved-stepped : {r : List ℕ} {code a b c : ℕ} {x : Answer} {late : List ℕ} → sound r ≡ true → Moved r code a b c x late → Stepped r code a b c x late
+moved-stepped {late = late} e m = record { answer = rw e (m .answer); room = rw e (sym (lay-store late (m .size)) ∙ ap lay (m .store)) }

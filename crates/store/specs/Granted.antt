@@ -4,20 +4,20 @@ use mathlib.Core.Bool.{Bool, true, false, cond, _&&_, not}
 use mathlib.Core.Path.{_≡_}
 use native.Mathlib.Omega.{arith}
 use lib.Dec.{eqb, ltb, leb}
-use borrow.Author.Tests.{ltb-true, leb-true, eqb-true}
-use Rattle.book.specs.Sizes.{hallsMax, partitionsMax, sessionsMax, keys, placesMax, readingMax, timeMax}
-use Rattle.book.specs.Cells.{Store, Halls, Partitions, Sessions, Transactions, Status, idle, running, HomeHall, HomePartition, By}
+use borrow.Author.Tests.{ltb-true, leb-true, eqb-true, eqb-false}
+use Rattle.book.specs.Sizes.{hallsMax, partitionsMax, sessionsMax, keys, placesMax, slots, timeMax}
+use Rattle.book.specs.Cells.{Store, Halls, Partitions, Sessions, Transactions, Status, idle, running, HomeHall, HomePartition, By, First, Waiting}
 use Rattle.book.specs.Cases.{and-true, passed}
-use Rattle.book.specs.Servers.{holds, partitionOf, placeOf, writer}
+use Rattle.book.specs.Servers.{holds, partitionOf, placeOf}
 use Rattle.book.specs.SessionSteps.{hasWrites}
 use Rattle.book.specs.Refusals.{sessionThere, transactionThere, unused, tickRefusal, startRefusal, readRefusal, writeRefusal, endRefusal, prepareRefusal, decideRefusal, commitRefusal, installRefusal, deliverRefusal, serverRefusal, shareRefusal}
 use Rattle.book.specs.WellFormed.{wellFormed, timeBound}
 use Rattle.theorems.specs.Step.{asked-for}
 use Rattle.theorems.specs.Tally.{prepared-most}
-use Rattle.theorems.specs.Formed.{Formed, Times, formed, layout, server-small, writer-small}
+use Rattle.theorems.specs.Formed.{Formed, Times, formed, layout, server-small}
 use Rattle.theorems.specs.KeptSteps.{times-le}
 use Rattle.ladders.specs.Sized.{Sized, session-in, transaction-in}
-use Rattle.views.specs.Merging.{Parted}
+use Rattle.views.specs.Partitions.{Parted}
 use Rattle.sessions.specs.Starting.{Homed}
 use Rattle.commits.specs.Safe.{Numbered, Coordinated, Timely, Writing}
 use Rattle.replication.specs.Safe.{Coordinated as AllCoordinated, Channel, Timely as AllTimely, Outgoing}
@@ -100,7 +100,7 @@ module _ (σ : Store) (w : wellFormed σ ≡ true) where
   place n N = let a = N .first in let b = N .last in omega arith
 
   pub prepare-in : (n p z : ℕ) → prepareRefusal σ n p z ≡ 0
-      → Numbered n × (p < partitionsMax) × Coordinated σ (placeOf n) × Timely σ (placeOf n) (writer σ (placeOf n) p) p
+      → Numbered n × (p < partitionsMax) × Coordinated σ (placeOf n) × Timely σ (placeOf n) p
   prepare-in n p z e =
       let N = number n _ _ e in
       let P = partition n p _ _ e in
@@ -116,7 +116,7 @@ module _ (σ : Store) (w : wellFormed σ ≡ true) where
           session = s;
           last = T .last (σ (By (placeOf n))) s;
           snapshot = T .snapshot (σ (By (placeOf n))) s;
-          hybrid = T .hybrid (writer σ (placeOf n) p) p (writer-small σ facts (placeOf n) p l) P;
+          hybrid = λ h i. T .hybrid h p i P;
         },
       )
 
@@ -153,3 +153,14 @@ module _ (σ : Store) (w : wellFormed σ ≡ true) where
       let y = ltb-true to (σ Halls) (b .0) in
       let m = sized .halls in
       (omega arith, omega arith)
+
+  pub deliver-in : (p f g : ℕ) → deliverRefusal σ p f g ≡ 0
+      → (p < partitionsMax) × (f < hallsMax) × (g < hallsMax) × (σ (First g p f) < slots) × (1 ≤ σ (Waiting g p f))
+  deliver-in p f g e =
+      let a = asked-for (holds σ f p && (holds σ g p && not (eqb f g))) 3 _ (omega arith) e in
+      let b = and-true (holds σ f p) _ (a .0) in
+      let d = and-true (holds σ g p) _ (b .1) in
+      let x = server f p (b .0) in
+      let y = server g p (d .0) in
+      let n = eqb-false (σ (Waiting g p f)) 0 (passed (eqb (σ (Waiting g p f)) 0) 11 _ (omega arith) (a .1) .0) in
+      (x .1, x .0, y .0, facts .first g p f (y .0) (x .1) (x .0), omega arith)

@@ -1,5 +1,5 @@
 -- The view of a key, one transaction after another.
-use Prim.Native.Nat.{ℕ, _≤_, _<_}
+use Prim.Native.Nat.{ℕ, _<_}
 use mathlib.Core.Bool.{cond, _&&_}
 use mathlib.Core.Path.{_≡_, refl}
 use mathlib.Core.List.{List}
@@ -7,14 +7,10 @@ use lib.ListN.{length}
 use Rattle.book.specs.declared.View.{View}
 use Rattle.book.specs.declared.View.the-variants.{Nothing, Seen}
 use Rattle.book.specs.Sizes.{hallsMax, partitionsMax, keys, placesMax}
-use Rattle.book.specs.Cells.{Store, Partitions}
+use Rattle.book.specs.Cells.{Store}
 use Rattle.book.specs.Servers.{partitionOf}
 use Rattle.book.specs.Views.{merge, version, versionsOf, wroteBy}
 use Rattle.room.specs.Layout.{size, store}
-
--- "1 to 4 partitions"
-abbrev pub Parted : Store → Type 0
-Parted σ = (0 < σ Partitions) × (σ Partitions ≤ partitionsMax)
 
 -- what a look at one transaction asks of a room: its length, a hall, key k's partition, a key and a place
 abbrev pub Looks : List ℕ → ℕ → ℕ → ℕ → ℕ → Type 0

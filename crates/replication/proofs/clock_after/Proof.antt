@@ -1,6 +1,5 @@
-use mathlib.Core.Path.{sym}
 use Rattle.room.specs.Layout.{store}
-use Rattle.replication.specs.Lowest.{low-above}
+use Rattle.replication.specs.ClockAfter.{lowest-above}
 use borrow.Author.Needs.{needs}
 use Rattle.replication.proofs.clock_after.Statement.{statement}
 use Rattle.replication.proofs.clock_after.Tie as tie
@@ -11,5 +10,5 @@ clock-after-spec =
     (tie.spec
     (λ c κs. search needs)
     (λ c κs. search needs)
-    (λ c κs. let s = c .before .before .before in let a = s .args in rw (c .lowest-prepared .ensures) (low-above (store (a .room .now)) (a .h) (a .p) (s .pre .4)))
+    (λ c κs. let s = c .before .before .before in let a = s .args in rw (c .lowest-prepared .ensures) (lowest-above (store (a .room .now)) (a .h) (a .p) (s .pre .4)))
     (λ c. rw (c .installed .ensures, c .before .lowest-prepared .ensures, c .before .before .take .ensures)))

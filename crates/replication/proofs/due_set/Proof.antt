@@ -1,11 +1,11 @@
 use Prim.Native.Nat.{_≤_, _-_}
-use mathlib.Core.Path.{_≡_}
+use mathlib.Core.Path.{_≡_, refl}
 use native.Mathlib.Omega.{arith}
 use Rattle.book.specs.Sizes.{placesMax}
 use Rattle.book.specs.Sets.{setOf}
 use Rattle.room.specs.Layout.{store}
 use Rattle.room.specs.Loops.{setOf-next}
-use Rattle.replication.specs.Installing.{due, setOf-none}
+use Rattle.replication.specs.Installing.{due}
 use borrow.Author.Needs.{needs}
 use Rattle.replication.proofs.due_set.Statement.{statement}
 use Rattle.replication.proofs.due_set.Tie as tie
@@ -17,12 +17,13 @@ abbrev μ-loop : tie.MeasureT-loop
 μ-loop room h p version set₀ t₀ set t = placesMax - t
 
 pub due-set-spec : {M : Type 1} → statement M
+unfolding setOf
 due-set-spec =
     tie.close
     (tie.spec
     Inv-loop
     μ-loop
-    (λ c. (search needs, setOf-none _))
+    (λ c. (search needs, refl))
     (λ c κs. search needs)
     (λ c. search needs)
     (λ c. search needs)

@@ -4,7 +4,7 @@ use mathlib.Core.Path.{_≡_, sym}
 use native.Mathlib.Omega.{arith}
 use lib.ListN.{length}
 use Rattle.book.specs.Sizes.{placesMax}
-use Rattle.book.specs.Cells.{Cell, Store, installed}
+use Rattle.book.specs.Cells.{Cell, installed}
 use Rattle.book.specs.Sets.{member}
 use Rattle.room.specs.Layout.{size, store}
 use Rattle.room.specs.Bulk.{row2i, upTo, begin, ahead, next}

@@ -9,5 +9,4 @@ with-prepared-spec =
     (λ c κs. search needs)
     (λ c κs. search needs)
     (λ c κs. search needs)
-    (λ c. rw (← (c .before .before .before .is-at .ensures), c .before .before .if1 .taken, ← (c .before .get .ensures)) (c .with-time .ensures))
-    (λ c. rw (← (c .before .is-at .ensures), c .if1 .left)))
+    (λ c. rw (c .join .ensures, c .before .is-at .ensures, c .before .before .get .ensures)))

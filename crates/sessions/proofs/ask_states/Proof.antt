@@ -1,27 +1,27 @@
 use Prim.Native.Nat.{_≤_, _-_}
-use mathlib.Core.Path.{_≡_, refl, ap, sym, _∙_}
+use mathlib.Core.Path.{_≡_, refl, sym, _∙_}
 use native.Mathlib.Omega.{arith}
 use lib.ListN.{length}
 use borrow.Author.Needs.{needs}
-use Rattle.book.specs.Cells.{Store}
+use Rattle.book.specs.Sizes.{partitionsMax}
 use Rattle.book.specs.Folds.{count}
 use Rattle.book.specs.SessionSteps.{touches}
 use Rattle.room.specs.Layout.{store}
 use Rattle.room.specs.Loops.{count-next}
-use Rattle.sessions.specs.Asking.{askedAt, askedTo, asked-none, asked-next, asked-done}
+use Rattle.sessions.specs.Asking.{askedTo, asked-none, asked-next, asked-done}
 use Rattle.sessions.proofs.ask_states.Statement.{statement}
 use Rattle.sessions.proofs.ask_states.Tie as tie
 
 abbrev Inv-loop : tie.InvT-loop
 Inv-loop room₀ t m n₀ p₀ room n p =
-    (p ≤ 4)
+    (p ≤ partitionsMax)
     × (length room ≡ length room₀)
     × (n ≤ p)
     × (n ≡ count p (touches (store room₀) m))
     × (store room ≡ askedTo p (store room₀) t m)
 
 abbrev μ-loop : tie.MeasureT-loop
-μ-loop room₀ t m n₀ p₀ room n p = 4 - p
+μ-loop room₀ t m n₀ p₀ room n p = partitionsMax - p
 
 loop-holds : tie.Need-loop-holds Inv-loop μ-loop
 unfolding count
@@ -44,12 +44,10 @@ ask-states-spec =
       search needs,
       e .2,
       rw (count-next, ← (i .inv .3)) (rw (i .inv .4) at (e .1)),
-      e .3
-          ∙ ap (λ (τ : Store). askedAt (i .p) τ (a .t) (a .m)) (i .inv .4)
-          ∙ asked-next (i .p) (store (a .room .now)) (a .t) (a .m),
+      asked-next (i .p) (store (a .room .now)) (a .t) (a .m) (e .3) (i .inv .4),
     ))
     (λ c. search needs)
     (λ c. let a = c .before .before .before .args in
     let i = c .before .loop in
-    let e : i .p ≡ 4 = omega arith in
+    let e : i .p ≡ partitionsMax = omega arith in
     (search needs, rw e at (i .inv .3), rw e at (i .inv .4) ∙ asked-done (store (a .room .now)) (a .t) (a .m) (c .before .before .before .pre .1))))

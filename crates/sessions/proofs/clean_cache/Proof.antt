@@ -1,20 +1,20 @@
 use Prim.Native.Nat.{_≤_, _-_}
-use mathlib.Core.Path.{_≡_, refl, ap, sym, _∙_}
+use mathlib.Core.Path.{_≡_, refl, sym, _∙_}
 use native.Mathlib.Omega.{arith}
 use lib.ListN.{length}
 use borrow.Author.Needs.{needs}
-use Rattle.book.specs.Cells.{Store}
+use Rattle.book.specs.Sizes.{keys}
 use Rattle.room.specs.Layout.{store}
-use Rattle.sessions.specs.Starting.{cleanedAt, cleanedTo, cleaned-none, cleaned-next, cleaned-done}
+use Rattle.sessions.specs.Starting.{cleanedTo, cleaned-none, cleaned-next, cleaned-done}
 use Rattle.sessions.proofs.clean_cache.Statement.{statement}
 use Rattle.sessions.proofs.clean_cache.Tie as tie
 
 abbrev Inv-loop : tie.InvT-loop
 Inv-loop room₀ s snapshot k₀ room k =
-    (k ≤ 32) × (length room ≡ length room₀) × (store room ≡ cleanedTo k (store room₀) s (snapshot .0))
+    (k ≤ keys) × (length room ≡ length room₀) × (store room ≡ cleanedTo k (store room₀) s (snapshot .0))
 
 abbrev μ-loop : tie.MeasureT-loop
-μ-loop room₀ s snapshot k₀ room k = 32 - k
+μ-loop room₀ s snapshot k₀ room k = keys - k
 
 pub clean-cache-spec : {M : Type 1} → statement M
 clean-cache-spec =
@@ -30,12 +30,10 @@ clean-cache-spec =
     let i = c .before .before .before .before .before .loop in (
       search needs,
       search needs,
-      c .before .before .clean .ensures .1
-          ∙ ap (λ (τ : Store). cleanedAt (i .k) τ (a .s) (a .snapshot .0)) (i .inv .2)
-          ∙ cleaned-next (i .k) (store (a .room .now)) (a .s) (a .snapshot .0),
+      cleaned-next (i .k) (store (a .room .now)) (a .s) (a .snapshot .0) (c .before .before .clean .ensures .1) (i .inv .2),
     ))
     (λ c. search needs)
     (λ c. let a = c .before .before .before .args in
     let i = c .before .loop in
-    let e : i .k ≡ 32 = omega arith in
+    let e : i .k ≡ keys = omega arith in
     (search needs, rw e at (i .inv .2) ∙ cleaned-done (a .room .now) (a .s) (a .snapshot .0))))

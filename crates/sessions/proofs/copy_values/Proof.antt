@@ -1,20 +1,20 @@
 use Prim.Native.Nat.{_≤_, _-_}
-use mathlib.Core.Path.{_≡_, refl, ap, sym, _∙_}
+use mathlib.Core.Path.{_≡_, refl, sym, _∙_}
 use native.Mathlib.Omega.{arith}
 use lib.ListN.{length}
 use borrow.Author.Needs.{needs}
-use Rattle.book.specs.Cells.{Store}
+use Rattle.book.specs.Sizes.{keys}
 use Rattle.room.specs.Layout.{store}
-use Rattle.sessions.specs.Asking.{copiedAt, copiedTo, copied-none, copied-next, copied-done}
+use Rattle.sessions.specs.Asking.{copiedTo, copied-none, copied-next, copied-done}
 use Rattle.sessions.proofs.copy_values.Statement.{statement}
 use Rattle.sessions.proofs.copy_values.Tie as tie
 
 abbrev Inv-loop : tie.InvT-loop
 Inv-loop room₀ s t k₀ room k =
-    (k ≤ 32) × (length room ≡ length room₀) × (store room ≡ copiedTo k (store room₀) s t)
+    (k ≤ keys) × (length room ≡ length room₀) × (store room ≡ copiedTo k (store room₀) s t)
 
 abbrev μ-loop : tie.MeasureT-loop
-μ-loop room₀ s t k₀ room k = 32 - k
+μ-loop room₀ s t k₀ room k = keys - k
 
 pub copy-values-spec : {M : Type 1} → statement M
 copy-values-spec =
@@ -30,12 +30,10 @@ copy-values-spec =
     let i = c .before .before .before .before .before .loop in (
       search needs,
       search needs,
-      c .before .before .copy-value .ensures .1
-          ∙ ap (λ (τ : Store). copiedAt (i .k) τ (a .s) (a .t)) (i .inv .2)
-          ∙ copied-next (i .k) (store (a .room .now)) (a .s) (a .t) (omega arith),
+      copied-next (i .k) (store (a .room .now)) (a .s) (a .t) (omega arith) (c .before .before .copy-value .ensures .1) (i .inv .2),
     ))
     (λ c. search needs)
     (λ c. let a = c .before .before .before .args in
     let i = c .before .loop in
-    let e : i .k ≡ 32 = omega arith in
+    let e : i .k ≡ keys = omega arith in
     (search needs, rw e at (i .inv .2) ∙ copied-done (store (a .room .now)) (a .s) (a .t))))

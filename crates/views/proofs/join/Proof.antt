@@ -1,4 +1,4 @@
-use mathlib.Core.Path.{sym, _∙_}
+use mathlib.Core.Path.{sym}
 use borrow.Author.Needs.{needs}
 use Rattle.views.specs.Merging.{merge-nothing}
 use Rattle.views.proofs.join.Statement.{statement}
