@@ -4,4 +4,3 @@ pub mod Run
 pub mod Begun
 pub mod Parts
 pub mod Page
-pub mod Standin

@@ -7,7 +7,6 @@ ghost use Rattle.book.specs.Answers.{viewNumbers, numbers};
 ghost use Rattle.book.specs.WellFormed.{wellFormed};
 ghost use Rattle.room.specs.Layout.{size, store};
 ghost use Rattle.ink.specs.Written.{Written, Room};
-ghost use Rattle.script.specs.Standin.{Moved};
 ghost use Rattle.script.specs.Printout.{lineOf, stepsFrom, countedFrom, setupFrom, sessionsFrom, hallsFrom, outcome};
 ghost use Rattle.script.specs.Length.{capacity};
 ghost use Rattle.script.specs.Run.{Done, Ran};
@@ -21,14 +20,6 @@ use scan::Section;
 
 // The bytes that are room enough for every printout.
 pub const CAPACITY: usize = 400063;
-
-fn step_inner(room: &mut [u64], code: u64, a: u64, b: u64, c: u64) -> Answer
-    requires { ⌜ (length (now room) ≡ size) × (wellFormed (store (now room)) ≡ true) ⌝ }
-    ensures { λ r. ⌜ Moved (now (room .entry)) code a b c r (now (room .exit)) ⌝ }
-{
-    room[0] = code;
-    Answer::Answered(a, c)
-}
 
 fn put_view(out: &mut [u8], at: usize, i: u64, w: View) -> usize
     requires { ⌜ Room (now out) at (lineOf i (viewNumbers w)) ⌝ }
@@ -76,7 +67,7 @@ fn steps(
                 return ink::put_script(out, place, k);
             }
             Four::Step(code, a, b, c, next) => {
-                let x = step_inner(room, code, a, b, c);
+                let x = store::step_inner(room, code, a, b, c);
                 place = put_answer(out, place, i, x);
                 at = next.at;
                 left -= 1;
