@@ -12,10 +12,7 @@ use Rattle.book.specs.Servers.{firstFrom}
 use Rattle.book.specs.Views.{mergeAll}
 use Rattle.book.specs.Setup.{setupRefusal, setupAnswer}
 use Rattle.book.specs.Steps.{ruleOf, refusal, after, answer}
-use Rattle.script.specs.Printout.{stepsFrom, countedFrom, setupFrom, sessionsFrom, hallsFrom, outcome}
-
-abbrev printed : List ℕ → List ℕ
-printed text = outcome text (λ d. 0) .bytes
+use Rattle.script.specs.Printout.{stepsFrom, countedFrom, setupFrom, sessionsFrom, hallsFrom, outcome, printed}
 
 -- numbers with a space between two and a line feed after the last, row by row
 abbrev row : List ℕ → List ℕ

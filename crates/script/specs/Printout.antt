@@ -7,6 +7,9 @@ use native.Mathlib.Nat.{not-suc-le-zero}
 use native.Mathlib.Numerals.{sub-one}
 use lib.Dec.{eqb, ltb}
 use lib.ListN.{length}
+use Rattle.scan.specs.declared.Cursor.{Cursor}
+use Rattle.scan.specs.declared.Section.{Section}
+use Rattle.scan.specs.declared.Section.the-variants.{Whole, Outside, Bad as BadSection}
 use Rattle.scan.specs.Number.{countAt}
 use Rattle.scan.specs.Groups.{onNumber, onFour, fourAt}
 use Rattle.scan.specs.Sections.{onSection, sectionAt}
@@ -119,3 +122,38 @@ pub setup-refused : (masks homes text : List ℕ) (at : ℕ) (σ : Store) → (s
 unfolding setupFrom setupAnswer setupRefusal digits decimal
 setup-refused masks homes text at σ h =
     by-test (eqb (length homes % 2) 0 && goodSetup (firstStore masks homes)) (λ e. absurd (h (rw e))) (λ e. rw e)
+
+-- Nothing of the store before setup is seen in the bytes.
+module _ (σ τ : Store) where
+  section-same : (x : Section) (g : Store → ℕ → Cursor → Outcome) → ((n : ℕ) (p : Cursor) → g σ n p .bytes ≡ g τ n p .bytes)
+      → onSection x (stop σ) (refused σ) (g σ) .bytes ≡ onSection x (stop τ) (refused τ) (g τ) .bytes
+  section-same (BadSection k) g h = refl
+  section-same Outside g h = refl
+  section-same (Whole n p) g h = h n p
+
+  setup-same : (masks homes text : List ℕ) (at : ℕ) → setupFrom masks homes text at σ .bytes ≡ setupFrom masks homes text at τ .bytes
+  unfolding setupFrom
+  setup-same masks homes text at = by-test (eqb (setupRefusal masks homes) 0) (λ e. rw e) (λ e. rw e)
+
+  sessions-same : (masks text : List ℕ) (at : ℕ) → sessionsFrom masks text at σ .bytes ≡ sessionsFrom masks text at τ .bytes
+  unfolding sessionsFrom
+  sessions-same masks text at =
+      let x = sectionAt sessionsMax 2 text at in
+      section-same (x .end) (λ ρ n p. setupFrom masks (x .got) text (p .at) ρ) (λ n p. setup-same masks (x .got) text (p .at))
+
+  halls-same : (text : List ℕ) → hallsFrom text σ .bytes ≡ hallsFrom text τ .bytes
+  unfolding hallsFrom
+  halls-same text =
+      let x = sectionAt hallsMax 1 text 0 in
+      section-same (x .end) (λ ρ n p. sessionsFrom (x .got) text (p .at) ρ) (λ n p. sessions-same (x .got) text (p .at))
+
+  pub outcome-same : (text : List ℕ) → outcome text σ .bytes ≡ outcome text τ .bytes
+  unfolding outcome
+  outcome-same text = by-test (ltb textMax (length text)) (λ e. rw e) (λ e. rw e (halls-same text))
+
+-- so a printout is its text's alone
+abbrev pub blank : Store
+blank = λ d. 0
+
+abbrev pub printed : List ℕ → List ℕ
+printed text = outcome text blank .bytes

@@ -4,14 +4,13 @@ use mathlib.Core.Bool.{Bool, true, false, cond, _&&_}
 use mathlib.Core.List.{List, [], _++_}
 use mathlib.Core.Path.{_≡_, refl, sym, ap, _∙_}
 use native.Mathlib.Nat.{zero-add}
-use native.Mathlib.Omega.{arith}
 use lib.Dec.{eqb, leb}
 use lib.ListN.{length, drop}
 use borrow.Author.Tests.{le-leb, eq-eqb}
 use Rattle.ink.specs.Written.{Written, parts, then}
 use Rattle.room.specs.Layout.{size, store}
 use Rattle.room.specs.Lay.{lay, lay-store}
-use Rattle.script.specs.Printout.{Outcome, only, before, outcome}
+use Rattle.script.specs.Printout.{Outcome, only, before, outcome, outcome-same, blank, printed}
 use Rattle.script.specs.Length.{capacity, outcome-fits}
 
 -- A phase that prints from `start` on: it has written what o prints and nothing else, and leaves a room with o's store.
@@ -36,7 +35,7 @@ lent room out = eqb (length room) size && leb capacity (length out)
 
 -- what is written
 abbrev pub printout : List ℕ → List ℕ → List ℕ → List ℕ
-printout text room out = cond (lent room out) (outcome text (store room) .bytes) []
+printout text room out = cond (lent room out) (printed text) []
 
 -- The bytes at the front of the buffer, and what was after them; their number; and the room, word for word.
 pub record Ran (text room out : List ℕ) (n : ℕ) (left late : List ℕ) : Type 0 where
@@ -58,8 +57,9 @@ module _ (text room out : List ℕ) where
       → Done (outcome text (store room)) 0 out late n left → Ran text room out n left late
   all-lent e h {n} {left} {late} d =
       let l : lent room out ≡ true = rw (eq-eqb (length room) size e, le-leb capacity (length out) h) in
+      let same = outcome-same (store room) blank text in
       record {
-        count = rw l (omega (arith, d .written .place));
-        bytes = rw l (rw (zero-add (length (outcome text (store room) .bytes))) at (parts (d .written) (outcome-fits text (store room) out h)));
+        count = rw l (rw (same, zero-add (length (printed text))) at (d .written .place));
+        bytes = rw l (rw (same, zero-add (length (printed text))) at (parts (d .written) (outcome-fits text (store room) out h)));
         words = rw l (sym (lay-store left (d .size)) ∙ ap lay (d .store));
       }
