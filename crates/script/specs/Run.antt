@@ -4,8 +4,9 @@ use mathlib.Core.Bool.{Bool, true, false, cond, _&&_}
 use mathlib.Core.List.{List, [], _++_}
 use mathlib.Core.Path.{_≡_, refl, sym, ap, _∙_}
 use native.Mathlib.Nat.{zero-add}
+use native.Mathlib.Omega.{arith}
 use lib.Dec.{eqb, leb}
-use lib.ListN.{length, drop}
+use lib.ListN.{length, drop, length-append}
 use borrow.Author.Tests.{le-leb, eq-eqb}
 use Rattle.ink.specs.Written.{Written, parts, then}
 use Rattle.room.specs.Layout.{size, store}
@@ -63,3 +64,9 @@ module _ (text room out : List ℕ) where
         bytes = rw l (rw (same, zero-add (length (printed text))) at (parts (d .written) (outcome-fits text (store room) out h)));
         words = rw l (sym (lay-store left (d .size)) ∙ ap lay (d .store));
       }
+
+-- the bytes are in the buffer
+pub inside : {text room out : List ℕ} {n : ℕ} {left late : List ℕ} → Ran text room out n left late → n ≤ length late
+inside {text} {room} {out} {late = late} r =
+    let p = printout text room out in
+    omega (arith, r .count, ap length (r .bytes), length-append p (drop (length p) out))
