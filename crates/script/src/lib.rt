@@ -1,0 +1,174 @@
+// A script is run: each phase reads the text from its place on, prints all that is left to print, and calls the next phase last.
+ghost use mathlib.Core.Bool.{true};
+ghost use mathlib.Core.Path.{_≡_};
+ghost use Prim.Native.Nat.{_≤_};
+ghost use lib.ListN.{length};
+ghost use Rattle.book.specs.Answers.{viewNumbers, numbers};
+ghost use Rattle.book.specs.WellFormed.{wellFormed};
+ghost use Rattle.room.specs.Layout.{size, store};
+ghost use Rattle.ink.specs.Written.{Written, Room};
+ghost use Rattle.script.specs.Printout.{lineOf, stepsFrom, countedFrom, setupFrom, sessionsFrom, hallsFrom, outcome};
+ghost use Rattle.script.specs.Length.{capacity};
+ghost use Rattle.script.specs.Run.{Done, Ran};
+use book::Answer;
+use book::View;
+use room::SIZE;
+use scan::Cursor;
+use scan::Four;
+use scan::Number;
+use scan::Section;
+
+// The bytes that are room enough for every printout.
+pub const CAPACITY: usize = 400063;
+
+fn put_view(out: &mut [u8], at: usize, i: u64, w: View) -> usize
+    requires { ⌜ Room (now out) at (lineOf i (viewNumbers w)) ⌝ }
+    ensures { λ r. ⌜ Written (now (out .entry)) at (lineOf i (viewNumbers w)) (now (out .exit)) r ⌝ }
+{
+    match w {
+        View::Nothing => ink::put_line(out, at, i, 0, 0, 0),
+        View::Seen(v, s) => ink::put_line(out, at, i, 0, 1, v),
+    }
+}
+
+// The line of step i.
+fn put_answer(out: &mut [u8], at: usize, i: u64, x: Answer) -> usize
+    requires { ⌜ Room (now out) at (lineOf i (numbers x)) ⌝ }
+    ensures { λ r. ⌜ Written (now (out .entry)) at (lineOf i (numbers x)) (now (out .exit)) r ⌝ }
+{
+    match x {
+        Answer::Refused(n) => ink::put_line(out, at, i, n, 0, 0),
+        Answer::Answered(a, b) => ink::put_line(out, at, i, 0, a, b),
+        Answer::Own(v) => ink::put_line(out, at, i, 0, 1, v),
+        Answer::Read(w) => put_view(out, at, i, w),
+    }
+}
+
+// The steps.
+fn steps(
+    text: &[u8],
+    room: &mut [u64],
+    out: &mut [u8],
+    start: usize,
+    count: u64,
+    from: usize,
+) -> usize
+    requires { ⌜ (length (now room) ≡ size) × (wellFormed (store (now room)) ≡ true) × (count ≤ 8000)
+        × Room (now out) start (stepsFrom count 1 (now text) from (store (now room)) .bytes) ⌝ }
+    ensures { λ r. ⌜ Done (stepsFrom count 1 (now (text .entry)) from (store (now (room .entry)))) start (now (out .entry)) (now (out .exit)) r (now (room .exit)) ⌝ }
+{
+    let mut at = from;
+    let mut place = start;
+    let mut left = count;
+    let mut i: u64 = 1;
+    while left > 0 {
+        match scan::read_four(text, Cursor { at }) {
+            Four::Bad(k) => {
+                return ink::put_script(out, place, k);
+            }
+            Four::Step(code, a, b, c, next) => {
+                let x = store::step_inner(room, code, a, b, c);
+                place = put_answer(out, place, i, x);
+                at = next.at;
+                left -= 1;
+                i += 1;
+            }
+        }
+    }
+    if at < text.len() {
+        return ink::put_script(out, place, at);
+    }
+    place
+}
+
+// The step count.
+fn counted(text: &[u8], room: &mut [u64], out: &mut [u8], start: usize, from: usize) -> usize
+    requires { ⌜ (length (now room) ≡ size) × (wellFormed (store (now room)) ≡ true)
+        × Room (now out) start (countedFrom (now text) from (store (now room)) .bytes) ⌝ }
+    ensures { λ r. ⌜ Done (countedFrom (now (text .entry)) from (store (now (room .entry)))) start (now (out .entry)) (now (out .exit)) r (now (room .exit)) ⌝ }
+{
+    match scan::read_count(text, Cursor { at: from }) {
+        Number::Bad(k) => ink::put_script(out, start, k),
+        Number::Value(n, next) => {
+            let at = next.at;
+            steps(text, room, out, start, n, at)
+        }
+    }
+}
+
+// Setup and its line.
+fn set_up(
+    text: &[u8],
+    masks: &[u64],
+    homes: &[u64],
+    room: &mut [u64],
+    out: &mut [u8],
+    from: usize,
+) -> usize
+    requires { ⌜ (length (now room) ≡ size) × Room (now out) 0 (setupFrom (now masks) (now homes) (now text) from (store (now room)) .bytes) ⌝ }
+    ensures { λ r. ⌜ Done (setupFrom (now (masks .entry)) (now (homes .entry)) (now (text .entry)) from (store (now (room .entry)))) 0 (now (out .entry)) (now (out .exit)) r (now (room .exit)) ⌝ }
+{
+    let x = setup::setup(room, masks, homes);
+    let Answer::Answered(partitions, servers) = x else {
+        return ink::put_line(out, 0, 0, 2, 0, 0);
+    };
+    let start = ink::put_line(out, 0, 0, 0, partitions, servers);
+    counted(text, room, out, start, from)
+}
+
+// The sessions' homes.
+fn sessions(text: &[u8], masks: &[u64], room: &mut [u64], out: &mut [u8], from: usize) -> usize
+    requires { ⌜ (length (now room) ≡ size) × Room (now out) 0 (sessionsFrom (now masks) (now text) from (store (now room)) .bytes) ⌝ }
+    ensures { λ r. ⌜ Done (sessionsFrom (now (masks .entry)) (now (text .entry)) from (store (now (room .entry)))) 0 (now (out .entry)) (now (out .exit)) r (now (room .exit)) ⌝ }
+{
+    let mut homes = [0u64; 32];
+    match scan::read_section(text, Cursor { at: from }, 16, 2, &mut homes) {
+        Section::Bad(k) => ink::put_script(out, 0, k),
+        Section::Outside => ink::put_line(out, 0, 0, 2, 0, 0),
+        Section::Whole(n, next) => {
+            let at = next.at;
+            set_up(text, masks, &homes[..n], room, out, at)
+        }
+    }
+}
+
+// The halls' masks.
+fn halls(text: &[u8], room: &mut [u64], out: &mut [u8]) -> usize
+    requires { ⌜ (length (now room) ≡ size) × Room (now out) 0 (hallsFrom (now text) (store (now room)) .bytes) ⌝ }
+    ensures { λ r. ⌜ Done (hallsFrom (now (text .entry)) (store (now (room .entry)))) 0 (now (out .entry)) (now (out .exit)) r (now (room .exit)) ⌝ }
+{
+    let mut masks = [0u64; 4];
+    match scan::read_section(text, Cursor { at: 0 }, 4, 1, &mut masks) {
+        Section::Bad(k) => ink::put_script(out, 0, k),
+        Section::Outside => ink::put_line(out, 0, 0, 2, 0, 0),
+        Section::Whole(n, next) => {
+            let at = next.at;
+            sessions(text, &masks[..n], room, out, at)
+        }
+    }
+}
+
+// Any text, where the room has its length and the buffer is long enough.
+fn print(text: &[u8], room: &mut [u64], out: &mut [u8]) -> usize
+    requires { ⌜ (length (now room) ≡ size) × (capacity ≤ length (now out)) ⌝ }
+    ensures { λ r. ⌜ Done (outcome (now (text .entry)) (store (now (room .entry)))) 0 (now (out .entry)) (now (out .exit)) r (now (room .exit)) ⌝ }
+{
+    if text.len() > 65536 {
+        return ink::put_script(out, 0, 65536);
+    }
+    halls(text, room, out)
+}
+
+// Writes the printout of a text to the front of `out` and returns its length; the room is then as the text's setup and steps leave it.
+// A room of another length than SIZE, or an `out` shorter than CAPACITY, is left as it is, and so is the other; 0 is returned.
+pub fn run(text: &[u8], room: &mut [u64], out: &mut [u8]) -> usize
+    ensures { λ r. ⌜ Ran (now (text .entry)) (now (room .entry)) (now (out .entry)) r (now (room .exit)) (now (out .exit)) ⌝ }
+{
+    if room.len() != SIZE {
+        return 0;
+    }
+    if out.len() < CAPACITY {
+        return 0;
+    }
+    print(text, room, out)
+}
