@@ -5,8 +5,8 @@ use Rattle.book.specs.Sizes.{partitionsMax}
 use Rattle.book.specs.Folds.{count}
 use Rattle.book.specs.Servers.{holds}
 use Rattle.room.specs.Layout.{store}
-use Rattle.room.specs.Loops.{count-next}
-use Rattle.formed.specs.Counts.{count-none, count-le}
+use Rattle.room.specs.Loops.{count-next, count-le}
+use Rattle.formed.specs.Counts.{count-none}
 use borrow.Author.Needs.{needs}
 use Rattle.setup.proofs.servers_of.Statement.{statement}
 use Rattle.setup.proofs.servers_of.Tie as tie
