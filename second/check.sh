@@ -1,6 +1,8 @@
 #!/bin/sh
-# Builds second and gen, and holds each printout against the one kept beside its script.
-# scripts/example.expect was typed from the page; gen-KIND-SEED.script must be what gen writes.
+# Builds second and gen, and holds each printout against the one kept beside its script, where the program `runs` has them.
+# example.expect was typed from the page; gen-KIND-SEED.script must be what gen writes; list names them all.
+LC_ALL=C
+export LC_ALL
 here=$(CDPATH='' cd -- "$(dirname -- "$0")" && pwd) || exit 1
 work=${TMPDIR:-/tmp}/second-check.$$
 (umask 077 && mkdir "$work") || exit 1
@@ -23,13 +25,15 @@ differs() {
     cmp "$2" "$3"
     exit 1
 }
+scripts=../crates/runs/data
 count=0
-[ -f scripts/example.expect ] || { echo "second: the page's example is missing"; exit 1; }
-for script in scripts/*.script; do
+[ -f "$scripts/example.expect" ] || { echo "second: the page's example is missing"; exit 1; }
+for script in "$scripts"/*.script; do
     name=$(basename "$script" .script)
     "$work/second" <"$script" >"$work/printout" || { echo "second: $name failed"; exit 1; }
-    cmp -s "$work/printout" "scripts/$name.expect" ||
-        differs "$name" "$work/printout" "scripts/$name.expect"
+    cmp -s "$work/printout" "$scripts/$name.expect" ||
+        differs "$name" "$work/printout" "$scripts/$name.expect"
+    echo "$name" >>"$work/list"
     case $name in
     gen-*)
         rest=${name#gen-}
@@ -39,4 +43,5 @@ for script in scripts/*.script; do
     esac
     count=$((count + 1))
 done
+cmp -s "$work/list" "$scripts/list" || differs list "$work/list" "$scripts/list"
 echo "second: $count scripts agree"
