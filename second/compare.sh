@@ -16,7 +16,7 @@ done
 printf '' | ../bench >/dev/null || exit 1
 
 echo "seeds from $seed"
-kinds='mixed bad full damaged rounds'
+kinds='mixed bad full damaged rounds long'
 done=0
 differ=0
 while [ "$done" -lt "$count" ]; do
