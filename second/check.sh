@@ -3,22 +3,8 @@
 # example.expect was typed from the page; gen-KIND-SEED.script must be what gen writes; list names them all.
 LC_ALL=C
 export LC_ALL
-here=$(CDPATH='' cd -- "$(dirname -- "$0")" && pwd) || exit 1
-work=${TMPDIR:-/tmp}/second-check.$$
-(umask 077 && mkdir "$work") || exit 1
-trap 'rm -rf "$work"' EXIT
-trap 'exit 1' HUP INT TERM
-
-build() {
-    out=$1
-    shift
-    "${CC:-cc}" -std=c11 -O2 -Wall -Wextra -Werror -o "$work/$out" "$@" && return
-    echo "second: $out does not build"
-    exit 1
-}
-cd "$here" || exit 1
-build second second.c store.c
-build gen gen.c store.c
+CDPATH='' cd -- "$(dirname -- "$0")" || exit 1
+. ./build.sh
 
 differs() {
     echo "second: $1 differs"

@@ -1,18 +1,10 @@
 #!/bin/sh
 # Both programs on fresh scripts: sh second/compare.sh N [SEED] generates N scripts of every kind from SEED on (from the clock
 # where none is given), runs ./bench and the second program on each, and reports how many printouts differ.
-here=$(CDPATH='' cd -- "$(dirname -- "$0")" && pwd) || exit 1
 count=${1:-500}
 seed=${2:-$(date +%s)}
-work=${TMPDIR:-/tmp}/second-compare.$$
-(umask 077 && mkdir "$work") || exit 1
-trap 'rm -rf "$work"' EXIT
-trap 'exit 1' HUP INT TERM
-
-cd "$here" || exit 1
-for program in second gen; do
-    "${CC:-cc}" -std=c11 -O2 -o "$work/$program" "$program.c" store.c || exit 1
-done
+CDPATH='' cd -- "$(dirname -- "$0")" || exit 1
+. ./build.sh
 printf '' | ../bench >/dev/null || exit 1
 
 echo "seeds from $seed"

@@ -1,17 +1,9 @@
 #!/bin/sh
 # How fast is bench, as a ratio to the second program: ten scripts of 8,000 steps, twenty times over, best of five, in one run.
 # Only on x86-64: elsewhere bench runs under an emulator, and its time says nothing.
-here=$(CDPATH='' cd -- "$(dirname -- "$0")" && pwd) || exit 1
 [ "$(uname -m)" = x86_64 ] || { echo "speed: this is no x86-64 machine"; exit 0; }
-work=${TMPDIR:-/tmp}/second-speed.$$
-(umask 077 && mkdir "$work") || exit 1
-trap 'rm -rf "$work"' EXIT
-trap 'exit 1' HUP INT TERM
-
-cd "$here" || exit 1
-for program in second gen; do
-    "${CC:-cc}" -std=c11 -O2 -o "$work/$program" "$program.c" store.c || exit 1
-done
+CDPATH='' cd -- "$(dirname -- "$0")" || exit 1
+. ./build.sh
 printf '' | ../bench >/dev/null || exit 1
 cp ../target/bin/bench "$work/bench"
 for seed in 0 1 2 3 4 5 6 7 8 9; do
