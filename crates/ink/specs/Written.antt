@@ -5,7 +5,7 @@ use mathlib.Core.List.{List, [], _∷_, _++_}
 use native.Mathlib.Nat.{add-zero}
 use native.Mathlib.Omega.{arith}
 use lib.ListN.{length, take, drop, set, length-append}
-use lib.Seq.{sets, sets-eq, take-append-seam}
+use lib.Seq.{sets, sets-eq}
 
 -- there is room for the bytes
 pub record Room (out : List ℕ) (at : ℕ) (bytes : List ℕ) : Type 0 where
@@ -21,15 +21,6 @@ pub record Written (out : List ℕ) (at : ℕ) (bytes : List ℕ) (late : List �
 pub parts : {out bytes late : List ℕ} {at next : ℕ} → Written out at bytes late next → Room out at bytes
     → late ≡ take at out ++ bytes ++ drop (at + length bytes) out
 parts {out} {bytes} {late} {at} w h = w .list ∙ sets-eq bytes out at (h .enough)
-
--- the place after them is inside, and of what is written from 0 on the bytes are those before it
-pub inside : {out bytes late : List ℕ} {at next : ℕ} → Written out at bytes late next → Room out at bytes → next ≤ length late
-inside w h = omega arith
-
-pub bytes-are : {out bytes late : List ℕ} {next : ℕ} → Written out 0 bytes late next → Room out 0 bytes → take next late ≡ bytes
-bytes-are {out} {bytes} {late} {next} w h =
-    let e : next ≡ length bytes = omega arith in
-    rw (parts w h, e) (take-append-seam bytes (drop (0 + length bytes) out))
 
 sets-sets : (l : List ℕ) (i : ℕ) (xs ys : List ℕ) → sets (sets l i xs) (i + length xs) ys ≡ sets l i (xs ++ ys)
 sets-sets l i [] ys = rw (add-zero i)

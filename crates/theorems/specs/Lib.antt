@@ -24,4 +24,3 @@ pub mod OwnWrites
 pub mod Calls
 pub mod Round
 pub mod RoundLists
-pub mod Printout
