@@ -3,7 +3,7 @@ use Prim.Native.Nat.{ℕ}
 use mathlib.Core.Path.{_≡_, _∙_}
 use Rattle.book.specs.declared.Clock.{Clock}
 use Rattle.book.specs.Cells.{Store, _⟨_≔_⟩, Reading, Hybrid, Entry}
-use Rattle.book.specs.CommitSteps.{proposedTime, committedTime}
+use Rattle.book.specs.CommitSteps.{proposedTime}
 use Rattle.room.specs.Updates.{keep}
 
 abbrev pub clock : ℕ → ℕ → ℕ → Clock
@@ -18,15 +18,9 @@ abbrev pub withClock : Store → ℕ → ℕ → Clock → Store
 withClock σ h p c =
     σ ⟨ Reading h p ≔ c .reading .0 ⟩ ⟨ Hybrid h p ≔ c .hybrid .0 ⟩ ⟨ Entry h p h ≔ c .version .0 ⟩
 
-abbrev pub tickedClock : Clock → ℕ → Clock
-tickedClock c x = clock x (c .hybrid .0) (c .version .0)
-
 abbrev pub proposedClock : Clock → ℕ → ℕ → Clock
 proposedClock c last S =
     clock (c .reading .0) (proposedTime (c .reading .0) (c .hybrid .0) last S) (c .version .0)
-
-abbrev pub committedClock : Clock → ℕ → Clock
-committedClock c time = clock (c .reading .0) (committedTime (c .hybrid .0) time (c .reading .0)) (c .version .0)
 
 module _ (σ : Store) (h p : ℕ) (c : Clock) where
   -- a clock that is put back with the hybrid clock and the version clock that it had

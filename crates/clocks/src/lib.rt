@@ -4,11 +4,12 @@ ghost use lib.ListN.{length};
 ghost use Rattle.book.specs.Sizes.{hallsMax, partitionsMax, timeMax};
 ghost use Rattle.book.specs.CommitSteps.{tick as tickedStore};
 ghost use Rattle.room.specs.Layout.{size, store};
-ghost use Rattle.clocks.specs.Clocks.{clockOf, withClock, tickedClock, proposedClock, committedClock};
+ghost use Rattle.clocks.specs.Clocks.{clockOf, withClock, proposedClock};
 use book::Answer;
 use book::Clock;
 use book::Reading;
 use book::Timestamp;
+use lent::after_tick;
 use room::ENTRY;
 use room::HYBRID;
 use room::READING;
@@ -35,13 +36,6 @@ pub fn put_back(room: &mut [u64], h: usize, p: usize, c: Clock)
     room::put(room, ENTRY, h, p, h, 0, c.version.0);
 }
 
-pub fn ticked(mut c: Clock, x: Reading) -> Clock
-    ensures { λ r. ⌜ r ≡ tickedClock c (x .0) ⌝ }
-{
-    c.reading = x;
-    c
-}
-
 // "the largest of reading, hybrid clock + 1, the session's last commit time + 1, S + 1"
 pub fn proposed(mut c: Clock, last: Timestamp, s: Timestamp) -> Clock
     requires { ⌜ (c .hybrid .0 ≤ timeMax) × (last .0 ≤ timeMax) × (s .0 ≤ timeMax) ⌝ }
@@ -53,21 +47,12 @@ pub fn proposed(mut c: Clock, last: Timestamp, s: Timestamp) -> Clock
     c
 }
 
-// "the largest of itself, the commit time and the reading"
-pub fn committed(mut c: Clock, time: Timestamp) -> Clock
-    ensures { λ r. ⌜ r ≡ committedClock c (time .0) ⌝ }
-{
-    let hybrid = c.hybrid;
-    c.hybrid = larger(hybrid, larger(time, Timestamp(c.reading.0)));
-    c
-}
-
 // 1. "Stores the reading."
 pub fn tick(room: &mut [u64], h: usize, p: usize, x: Reading) -> Answer
     requires { ⌜ (length (now room) ≡ size) × (h < hallsMax) × (p < partitionsMax) ⌝ }
     ensures { λ r. ⌜ (length (now (room .exit)) ≡ size) × (r ≡ Answer.Answered 0 0) × (store (now (room .exit)) ≡ tickedStore (store (now (room .entry))) h p (x .0)) ⌝ }
 {
     let c = take(room, h, p);
-    put_back(room, h, p, ticked(c, x));
+    put_back(room, h, p, after_tick(c, x));
     Answer::Answered(0, 0)
 }

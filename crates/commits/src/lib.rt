@@ -14,10 +14,10 @@ use book::Answer;
 use book::Clock;
 use book::Timestamp;
 use book::TxNumber;
-use clocks::committed;
 use clocks::proposed;
 use clocks::put_back;
 use clocks::take;
+use lent::after_commit;
 use room::BY;
 use room::CACHE_TIME;
 use room::CACHE_VALUE;
@@ -148,7 +148,7 @@ pub fn commit(room: &mut [u64], n: TxNumber, p: usize) -> Answer
     let t = place_of(n);
     let h = writing_hall(room, t, p);
     let time = Timestamp(room::get(room, COMMIT_TIME, t, 0, 0, 0));
-    let c = committed(take(room, h, p), time);
+    let c = after_commit(take(room, h, p), time);
     put_back(room, h, p, c);
     room::put(room, STATE, t, p, 0, 0, WAITING);
     Answer::Answered(c.hybrid.0, 0)

@@ -14,7 +14,7 @@ tick-spec =
     (λ c κs. search needs)
     (λ c. search needs)
     (λ c. let a = c .before .before .before .before .before .before .before .before .args in
-    let ticked = c .before .before .before .ticked in
+    let ticked = c .before .before .before .after-tick in
     let taken = c .before .before .before .before .before .take .ensures in (
       c .before .before .put-back .ensures .0,
       refl,

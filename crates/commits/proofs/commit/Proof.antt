@@ -19,7 +19,7 @@ commit-spec =
     (λ c κs. search needs)
     (λ c. search needs)
     (λ c. let a = c .before .before .before .before .before .before .before .before .before .before .before .before .before .before .before .before .before .args in
-    let clock = c .before .before .before .before .before .before .before .before .committed in
+    let clock = c .before .before .before .before .before .before .before .before .after-commit in
     let taken = c .before .before .before .before .before .before .before .before .before .take .ensures in
     let time = c .before .before .before .before .before .before .before .before .before .before .before .get .ensures in
     let hall = c .before .before .before .before .before .before .before .before .before .before .before .before .before .writing-hall in

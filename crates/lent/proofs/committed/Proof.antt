@@ -1,6 +1,6 @@
 use borrow.Author.Needs.{needs}
-use Rattle.clocks.proofs.committed.Statement.{statement}
-use Rattle.clocks.proofs.committed.Tie as tie
+use Rattle.lent.proofs.committed.Statement.{statement}
+use Rattle.lent.proofs.committed.Tie as tie
 
 pub committed-spec : {M : Type 1} → statement M
 committed-spec = tie.close (tie.spec
