@@ -9,6 +9,8 @@ use lib.ListN.{length, getD, drop, length-drop, drop-of-length-le}
 use lib.Seq.{drop-cons}
 use lib.Dec.{eqb, leb}
 use borrow.Author.Tests.{leb-true}
+use Rattle.reader.specs.declared.Sign.the-variants.{Byte, End}
+use Rattle.reader.specs.Sign.{signAt, byte-here, end-here}
 use Rattle.scan.specs.declared.Number.{Number}
 use Rattle.scan.specs.declared.Number.the-variants.{Value, Bad}
 
@@ -61,28 +63,28 @@ numberAt text at = start numberMax false at (drop at text)
 abbrev pub countAt : List ℕ → ℕ → Number
 countAt text at = start countMax true at (drop at text)
 
--- the same at a place of the whole text, one byte on, and at its end
+-- the same at a place of the whole text, where a reader finds a byte, and at its end
 module _ (most : ℕ) (early : Bool) (from : ℕ) (text : List ℕ) where
-  pub more-end : (at v : ℕ) → length text ≤ at → more most early from (drop at text) at v ≡ Bad at
+  pub more-end : (at v : ℕ) → signAt text at ≡ End → more most early from (drop at text) at v ≡ Bad at
   unfolding more
-  more-end at v h = rw (drop-of-length-le text h)
+  more-end at v e = rw (drop-of-length-le text (end-here text at e))
 
-  pub more-here : (at v : ℕ) → at < length text → let b = getD text at 0 in more most early from (drop at text) at v ≡
+  pub more-here : (at v b : ℕ) → signAt text at ≡ Byte b → more most early from (drop at text) at v ≡
       cond (closing b) (Value v (record { at = at + 1 }))
       (cond (grows v b)
       (cond (leb (joined v b) most) (more most early from (drop (at + 1) text) (at + 1) (joined v b)) (Bad (cond early from at)))
       (Bad at))
   unfolding more
-  more-here at v h = rw (drop-cons text at 0 h, add-one at)
+  more-here at v b e = let h = byte-here text at b e in rw (drop-cons text at 0 (h .0), h .1, add-one at)
 
-  pub start-end : length text ≤ from → start most early from (drop from text) ≡ Bad from
+  pub start-end : signAt text from ≡ End → start most early from (drop from text) ≡ Bad from
   unfolding start
-  start-end h = rw (drop-of-length-le text h)
+  start-end e = rw (drop-of-length-le text (end-here text from e))
 
-  pub start-here : from < length text → let b = getD text from 0 in start most early from (drop from text) ≡
+  pub start-here : (b : ℕ) → signAt text from ≡ Byte b → start most early from (drop from text) ≡
       cond (digit b) (more most early from (drop (from + 1) text) (from + 1) (b - 48)) (Bad from)
   unfolding start
-  start-here h = rw (drop-cons text from 0 h, add-one from)
+  start-here b e = let h = byte-here text from b e in rw (drop-cons text from 0 (h .0), h .1, add-one from)
 
 pub and-true : (a b : Bool) → (a && b) ≡ true → (a ≡ true) × (b ≡ true)
 and-true true b e = (refl, e)

@@ -1,4 +1,4 @@
-// Reading the script: the text is a lent slice, and the place in it a cursor by value.
+// Reading the script: each byte is taken by a reader (crates/reader), and the place in the text is a cursor by value.
 ghost use mathlib.Core.Path.{_≡_};
 ghost use mathlib.Core.Bool.{true, cond};
 ghost use Prim.Native.Nat.{_*_, _<_, _≤_, _^_};
@@ -8,6 +8,8 @@ ghost use lib.Seq.{sets};
 ghost use Rattle.scan.specs.Number.{digit, closing, grows, joined, start, numberAt, countAt};
 ghost use Rattle.scan.specs.Groups.{fourAt, manyAt};
 ghost use Rattle.scan.specs.Sections.{among, numbersAt, sectionAt};
+use reader::Sign;
+use reader::peek_at;
 
 // "a place in the lent text"
 pub struct Cursor {
@@ -88,17 +90,18 @@ fn read_up_to(text: &[u8], from: usize, most: u64, early: bool) -> Number
     requires { ⌜ 9 ≤ most ⌝ }
     ensures { λ r. ⌜ r ≡ start most early from (drop from (now (text .entry))) ⌝ }
 {
-    if from >= text.len() {
+    let Sign::Byte(first) = peek_at(text, from) else {
         return Number::Bad(from);
-    }
-    let first = text[from];
+    };
     if !is_digit(first) {
         return Number::Bad(from);
     }
     let mut v = (first - 48) as u64;
     let mut at = from + 1;
-    while at < text.len() {
-        let b = text[at];
+    loop {
+        let Sign::Byte(b) = peek_at(text, at) else {
+            return Number::Bad(at);
+        };
         if closes(b) {
             return Number::Value(v, Cursor { at: at + 1 });
         }
@@ -111,7 +114,6 @@ fn read_up_to(text: &[u8], from: usize, most: u64, early: bool) -> Number
         v = join(v, b);
         at += 1;
     }
-    Number::Bad(at)
 }
 
 pub fn read_number(text: &[u8], c: Cursor) -> Number
