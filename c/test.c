@@ -18,17 +18,19 @@ static size_t runs, steps, rooms, differences;
 
 /* ---- Random draws: xorshift ---- */
 
-static u64 below(u64 n) {
+static u64 draw(void) {
     static u64 x = 88172645463325252;
     x ^= x << 13;
     x ^= x >> 7;
     x ^= x << 17;
-    return n == 0 ? x : x % n; /* 0: any number */
+    return x;
 }
+
+static u64 below(u64 n) { return draw() % n; }
 
 /* ---- The layout: docs/ROOM.md. Words that a state says nothing of stay as they are. ---- */
 
-enum { SETUP_WORDS = 8, SERVER_WORDS = 71, SESSION_WORDS = 135, TRANSACTION_WORDS = 44, CHANNEL_WORDS = 18 };
+enum { SERVER_WORDS = 71, SESSION_WORDS = 135, TRANSACTION_WORDS = 44, CHANNEL_WORDS = 18 };
 enum { SERVERS_AT = 8, SESSIONS_AT = 1144, TRANSACTIONS_AT = 3304, CHANNELS_AT = 6120, NOTES_AT = 7272 };
 
 static void lay_server(u64 *w, const struct Server *server) {
@@ -220,8 +222,8 @@ static void compare(const char *call, struct cranktimber_numbers got, struct Ans
         return;
     if (differences++ > 0)
         return;
-    printf("run %zu, step %zu, %s: %" PRIu64 " %" PRIu64 " %" PRIu64 ", but the second program %u %" PRIu64 " %" PRIu64 "\n", runs, steps,
-           call, got.refusal, got.first, got.second, want.refusal, want.first, want.second);
+    printf("run %zu, step %zu, %s: %" PRIu64 " %" PRIu64 " %" PRIu64 ", not %u %" PRIu64 " %" PRIu64 "\n", runs, steps, call, got.refusal,
+           got.first, got.second, want.refusal, want.first, want.second);
     if (word <= WORDS)
         printf("word %zu: %" PRIu64 ", not %" PRIu64 "\n", word, room[word], due[word]);
 }
@@ -230,20 +232,20 @@ static struct Answer turned_away(unsigned number) {
     return (struct Answer){number, 0, 0};
 }
 
-/* The numbers of a setup, with one more of each than there may be. */
+/* The numbers of a setup, with a place more than there may be halls and sessions. */
 struct Numbers {
     u64 masks[HALLS + 1], halls;
     struct Home homes[SESSIONS + 1];
     u64 sessions;
 };
 
-static struct cranktimber_numbers library_setup(size_t words, const struct Numbers *n, size_t left_out) {
-    u64 homes[2 * (SESSIONS + 1)];
+static struct cranktimber_numbers library_setup(size_t words, const struct Numbers *n, size_t extra) {
+    u64 homes[2 * (SESSIONS + 1) + 1] = {0};
     for (size_t s = 0; s <= SESSIONS; s++) {
         homes[2 * s] = n->homes[s].hall;
         homes[2 * s + 1] = n->homes[s].partition;
     }
-    return cranktimber_setup(room, words, n->masks, n->halls, homes, 2 * n->sessions - left_out);
+    return cranktimber_setup(room, words, n->masks, n->halls, homes, 2 * n->sessions + extra);
 }
 
 /* A good setup writes every word, whatever was there. */
@@ -251,28 +253,30 @@ static void both_set_up(const struct Numbers *n) {
     struct Answer want = setup(&store, n->masks, n->halls, n->homes, n->sessions);
     if (want.refusal == 0) {
         for (size_t word = 0; word < WORDS; word++)
-            room[word] = below(0);
+            room[word] = draw();
         memset(due, 0, WORDS * sizeof *due);
         lay();
     }
     compare("setup", library_setup(WORDS, n, 0), want);
 }
 
-/* One number is changed, or a length. */
+/* One number is changed, and perhaps a length. */
 static void spoilt_setup(struct Numbers n) {
     static const u64 numbers[] = {0, 1, 2, 3, 4, 8, 15, 16, 17, UINT64_MAX};
     u64 number = numbers[below(sizeof numbers / sizeof numbers[0])];
-    switch (below(8)) {
-    case 0: n.halls = below(HALLS + 2); break;
-    case 1: n.sessions = below(SESSIONS + 2); break;
-    case 2: n.masks[below(n.halls)] = number; break;
-    case 3: n.homes[below(n.sessions)].hall = number; break;
-    case 4: n.homes[below(n.sessions)].partition = number; break;
-    case 5: compare("setup, a word too few", library_setup(WORDS - 1, &n, 0), turned_away(1)); return;
-    case 6: compare("setup, a word too many", library_setup(WORDS + 1, &n, 0), turned_away(1)); return;
-    default: compare("setup, half a home", library_setup(WORDS, &n, 1), turned_away(2)); return;
+    switch (below(5)) {
+    case 0: n.masks[below(n.halls)] = number; break;
+    case 1: n.homes[below(n.sessions)].hall = number; break;
+    case 2: n.homes[below(n.sessions)].partition = number; break;
+    case 3: n.halls = below(HALLS + 2); break;
+    default: n.sessions = below(SESSIONS + 2); break;
     }
-    both_set_up(&n);
+    switch (below(6)) {
+    case 0: compare("setup, a word too few", library_setup(WORDS - 1, &n, 0), turned_away(1)); break;
+    case 1: compare("setup, a word too many", library_setup(WORDS + 1, &n, 0), turned_away(1)); break;
+    case 2: compare("setup, half a home more", library_setup(WORDS, &n, 1), turned_away(2)); break;
+    default: both_set_up(&n); break;
+    }
 }
 
 static struct cranktimber_numbers library_step(size_t words, const u64 *n) {
@@ -280,92 +284,85 @@ static struct cranktimber_numbers library_step(size_t words, const u64 *n) {
 }
 
 static void both_step(const u64 *n) {
-    steps++;
     struct Answer want = step(&store, n[0], n[1], n[2], n[3]);
+    steps++;
     lay();
     compare("step", library_step(WORDS, n), want);
 }
 
-/* A word at its limit is well formed, so that a step with no code gets 3; past it no step gets anything but 1. */
+static void other_length(const u64 *n) {
+    static const size_t lengths[] = {0, 1, WORDS - 1, WORDS + 1};
+    compare("step, a room of wrong length", library_step(lengths[below(4)], n), turned_away(1));
+}
+
+static const u64 no_step[4]; /* code 0: 3 in a room that is well formed */
+
+/* One word at its limit is well formed; past it any step gets 1. */
 static void changed_room(const u64 *n) {
-    static const u64 no_step[4] = {0};
-    size_t word = below(4) > 0 ? below(WORDS) : below(SETUP_WORDS);
+    size_t word = below(4) > 0 ? below(WORDS) : below(SERVERS_AT);
     u64 kept = due[word], limit = most(word);
     rooms++;
     room[word] = due[word] = limit;
     compare("a word at its limit", library_step(WORDS, no_step), turned_away(3));
     if (limit != any) {
-        room[word] = due[word] = below(2) == 0 ? limit + 1 : UINT64_MAX - below(2);
+        room[word] = due[word] = below(2) == 0 ? limit + 1 : UINT64_MAX;
         compare("a word past its limit", library_step(WORDS, n), turned_away(1));
     }
     room[word] = due[word] = kept;
 }
 
-static void other_length(const u64 *n) {
-    static const size_t lengths[] = {0, 1, WORDS - 1, WORDS + 1};
-    compare("step, wrong length", library_step(lengths[below(4)], n), turned_away(1));
-}
-
 /* ---- Scripts ---- */
 
-/* A number and the byte that closes it, if there is one. */
-static bool take(u64 *n) {
+/* A number within these bounds, and the byte that closes it. */
+static u64 number(u64 least, u64 most) {
+    u64 n = 0;
     int byte = getchar();
-    bool any_digit = false;
-    for (*n = 0; byte >= '0' && byte <= '9'; byte = getchar()) {
-        *n = *n * 10 + (u64)(byte - '0');
-        any_digit = true;
+    bool digits = false;
+    for (; byte >= '0' && byte <= '9'; byte = getchar()) {
+        n = n * 10 + (u64)(byte - '0');
+        digits = true;
     }
-    return any_digit;
-}
-
-static u64 number(u64 most) {
-    u64 n;
-    if (take(&n) && n <= most)
-        return n;
-    puts("c: bad script");
-    exit(1);
-}
-
-static bool run(void) {
-    struct Numbers numbers = {0};
-    if (!take(&numbers.halls))
-        return false;
-    if (numbers.halls < 1 || numbers.halls > HALLS) {
-        puts("c: bad script");
+    if (!digits || n < least || n > most) {
+        puts("c: a script that is not taken here");
         exit(1);
     }
+    return n;
+}
+
+static void run(void) {
+    struct Numbers numbers = {0};
+    numbers.halls = number(1, HALLS);
     for (u64 h = 0; h < numbers.halls; h++)
-        numbers.masks[h] = number(any);
-    numbers.sessions = number(SESSIONS);
+        numbers.masks[h] = number(0, any);
+    numbers.sessions = number(1, SESSIONS);
     for (u64 s = 0; s < numbers.sessions; s++) {
-        numbers.homes[s].hall = number(any);
-        numbers.homes[s].partition = number(any);
+        numbers.homes[s].hall = number(0, any);
+        numbers.homes[s].partition = number(0, any);
     }
     runs++;
     for (int times = 0; times < 20; times++)
         spoilt_setup(numbers);
     both_set_up(&numbers);
-    for (u64 count = number(any); count > 0; count--) {
+    for (u64 count = number(0, any); count > 0; count--) {
         u64 n[4];
         for (int i = 0; i < 4; i++)
-            n[i] = number(any);
+            n[i] = number(0, any);
         both_step(n);
-        changed_room(n);
         other_length(n);
+        changed_room(n);
     }
-    return true;
 }
 
 int main(void) {
-    /* Random words are no room. From here on both have a store: where a script's setup is refused, its steps go on with the last. */
-    static const u64 no_step[4] = {0};
     for (size_t word = 0; word <= WORDS; word++)
-        room[word] = due[word] = below(0);
+        room[word] = due[word] = draw();
     compare("random words", library_step(WORDS, no_step), turned_away(1));
+    /* From here on both have a store: where a script's setup is refused, its steps go on with the one before. */
     both_set_up(&(struct Numbers){.masks = {1}, .halls = 1, .sessions = 1});
-    while (run())
-        continue;
+    for (int byte = getchar(); byte != EOF; byte = getchar()) {
+        ungetc(byte, stdin);
+        run();
+    }
     printf("c: %zu runs, %zu steps, %zu rooms changed, %zu differences\n", runs, steps, rooms, differences);
     return differences == 0 && runs > 0 ? 0 : 1;
 }
