@@ -16,7 +16,8 @@ build() {
     touch "$made"
 }
 
-# run PROGRAM: programs are compiled for x86-64. On another processor the kit brings an emulator, and beside it the loader and the C library.
+# run PROGRAM: programs are compiled for x86-64. On another processor the kit brings an emulator, and beside it the loader and the
+# C library.
 run() {
     if [ "$(uname -m)" = x86_64 ]; then
         "$1"

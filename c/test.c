@@ -157,8 +157,8 @@ static u64 time_bound(void) {
 
 static u64 most_of_setup(size_t i) {
     switch (i) {
-    case 0: return store.halls;                             /* the next has no mask */
-    case 1: return store.partitions;                        /* "one more than the highest partition held" */
+    case 0: return store.halls; /* the next has no mask */
+    case 1: return store.partitions; /* "one more than the highest partition held" */
     case 2: return holds(&store, 0, 0) ? SESSIONS : store.sessions; /* the home of the next ones is (0, 0) */
     case 3: return REQUESTS;
     default: return i - 4 < store.halls ? (UINT64_C(1) << store.partitions) - 1 : any;
@@ -295,7 +295,7 @@ static void other_length(const u64 *n) {
     compare("step, a room of wrong length", library_step(lengths[below(4)], n), turned_away(1));
 }
 
-static const u64 no_step[4]; /* code 0: 3 in a room that is well formed */
+static const u64 no_step[4] = {0}; /* code 0 gets 3, in a room that is well formed */
 
 /* One word at its limit is well formed; past it any step gets 1. */
 static void changed_room(const u64 *n) {
@@ -314,7 +314,7 @@ static void changed_room(const u64 *n) {
 /* ---- Scripts ---- */
 
 /* A number within these bounds, and the byte that closes it. */
-static u64 number(u64 least, u64 most) {
+static u64 number(u64 least, u64 largest) {
     u64 n = 0;
     int byte = getchar();
     bool digits = false;
@@ -322,7 +322,7 @@ static u64 number(u64 least, u64 most) {
         n = n * 10 + (u64)(byte - '0');
         digits = true;
     }
-    if (!digits || n < least || n > most) {
+    if (!digits || n < least || n > largest) {
         puts("c: a script that is not taken here");
         exit(1);
     }
