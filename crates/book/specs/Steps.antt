@@ -11,7 +11,8 @@ use Rattle.book.specs.declared.View.the-variants.{Nothing, Seen}
 use Rattle.book.specs.Cells.{Store, WriteSet, ReadSet, CacheTime, Snapshot}
 use Rattle.book.specs.Cases.{by-test, by-eq}
 use Rattle.book.specs.Sets.{member}
-use Rattle.book.specs.Answers.{Numbers, triple, viewNumbers, numbers}
+use Rattle.book.specs.declared.Numbers.{Numbers}
+use Rattle.book.specs.Answers.{triple, viewNumbers, numbers}
 use Rattle.book.specs.Servers.{placeOf}
 use Rattle.book.specs.Views.{heldView}
 use Rattle.book.specs.SessionSteps.{start, startAnswer, read, readAnswer, write, hasWrites, end, endAnswer}

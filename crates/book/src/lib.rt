@@ -28,6 +28,14 @@ pub enum Answer {
     Read(View),
 }
 
+// What a line of the printout says of a step: "refusal or 0, first answer, second answer". A caller in C gets it too.
+#[repr(C)]
+pub struct Numbers {
+    pub refusal: u64,
+    pub first: u64,
+    pub second: u64,
+}
+
 // "one server's reading, hybrid clock and version clock move together as one record"
 pub struct Clock {
     pub reading: Reading,

@@ -3,16 +3,12 @@ use Prim.Native.Nat.{ℕ}
 use mathlib.Core.List.{List}
 use mathlib.Core.Path.{_≡_, sym, ap, _∙_}
 use Rattle.book.specs.declared.Answer.{Answer}
-use Rattle.book.specs.Answers as book
-use Rattle.cranktimber.specs.declared.Numbers.{Numbers}
-
--- an answer's numbers, as the struct that C gets
-abbrev pub forC : book.Numbers → Numbers
-forC n = record { 0 = n .refusal; 1 = n .first; 2 = n .second }
+use Rattle.book.specs.declared.Numbers.{Numbers}
+use Rattle.book.specs.Answers.{numbers as numbersOf}
 
 -- what a contract for C asks of the numbers x and of the room left, where an answer and a room are due
 pub record Told (answer : Answer) (due : List ℕ) (x : Numbers) (left : List ℕ) : Type 0 where
-  pub numbers : x ≡ forC (book.numbers answer)
+  pub numbers : x ≡ numbersOf answer
   pub room : left ≡ due
 
 -- No second outcome fits.
@@ -22,5 +18,5 @@ one-outcome s t = (s .numbers ∙ sym (t .numbers), s .room ∙ sym (t .room))
 
 -- the numbers of the answer given, which is the one due
 pub tells : {a answer : Answer} {due : List ℕ} {x : Numbers} {left : List ℕ}
-    → a ≡ answer → left ≡ due → x ≡ forC (book.numbers a) → Told answer due x left
-tells given room told = record { numbers = told ∙ ap (λ (b : Answer). forC (book.numbers b)) given; room = room }
+    → a ≡ answer → left ≡ due → x ≡ numbersOf a → Told answer due x left
+tells given room told = record { numbers = told ∙ ap numbersOf given; room = room }

@@ -17,7 +17,8 @@ use Rattle.ink.specs.Decimal.{decimal, digits, line, script}
 use Rattle.book.specs.Sizes.{hallsMax, sessionsMax}
 use Rattle.book.specs.Cells.{Store}
 use Rattle.book.specs.Cases.{by-test}
-use Rattle.book.specs.Answers.{Numbers, triple, numbers}
+use Rattle.book.specs.declared.Numbers.{Numbers}
+use Rattle.book.specs.Answers.{triple, numbers}
 use Rattle.book.specs.Setup.{goodSetup, firstStore, setupRefusal, setupAnswer}
 use Rattle.book.specs.Steps.{after, answer}
 

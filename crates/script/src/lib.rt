@@ -3,7 +3,7 @@ ghost use mathlib.Core.Bool.{true};
 ghost use mathlib.Core.Path.{_≡_};
 ghost use Prim.Native.Nat.{_≤_};
 ghost use lib.ListN.{length};
-ghost use Rattle.book.specs.Answers.{viewNumbers, numbers};
+ghost use Rattle.book.specs.Answers.{numbers};
 ghost use Rattle.book.specs.WellFormed.{wellFormed};
 ghost use Rattle.room.specs.Layout.{size, store};
 ghost use Rattle.ink.specs.Written.{Written, Room};
@@ -11,7 +11,6 @@ ghost use Rattle.script.specs.Printout.{lineOf, stepsFrom, countedFrom, 
 ghost use Rattle.script.specs.Length.{capacity};
 ghost use Rattle.script.specs.Run.{Done, Ran};
 use book::Answer;
-use book::View;
 use room::SIZE;
 use scan::Cursor;
 use scan::Four;
@@ -21,27 +20,13 @@ use scan::Section;
 // The bytes that are room enough for every printout.
 pub const CAPACITY: usize = 400063;
 
-fn put_view(out: &mut [u8], at: usize, i: u64, w: View) -> usize
-    requires { ⌜ Room (now out) at (lineOf i (viewNumbers w)) ⌝ }
-    ensures { λ r. ⌜ Written (now (out .entry)) at (lineOf i (viewNumbers w)) (now (out .exit)) r ⌝ }
-{
-    match w {
-        View::Nothing => ink::put_line(out, at, i, 0, 0, 0),
-        View::Seen(v, s) => ink::put_line(out, at, i, 0, 1, v),
-    }
-}
-
 // The line of step i.
 fn put_answer(out: &mut [u8], at: usize, i: u64, x: Answer) -> usize
     requires { ⌜ Room (now out) at (lineOf i (numbers x)) ⌝ }
     ensures { λ r. ⌜ Written (now (out .entry)) at (lineOf i (numbers x)) (now (out .exit)) r ⌝ }
 {
-    match x {
-        Answer::Refused(n) => ink::put_line(out, at, i, n, 0, 0),
-        Answer::Answered(a, b) => ink::put_line(out, at, i, 0, a, b),
-        Answer::Own(v) => ink::put_line(out, at, i, 0, 1, v),
-        Answer::Read(w) => put_view(out, at, i, w),
-    }
+    let n = answers::numbers(x);
+    ink::put_line(out, at, i, n.refusal, n.first, n.second)
 }
 
 // The steps.

@@ -13,7 +13,8 @@ use Rattle.book.specs.Sizes.{keys}
 use Rattle.book.specs.Cells.{Store, same, Sessions, Status, idle, running, committing, Snapshot, WriteSet, ReadSet, WriteValue, ReadValue, CacheValue, CacheTime, By}
 use Rattle.book.specs.Cases.{by-test, by-eq, unwritten}
 use Rattle.book.specs.Sets.{member, member-none, member-include}
-use Rattle.book.specs.Answers.{Numbers, triple, viewNumbers, numbers}
+use Rattle.book.specs.declared.Numbers.{Numbers}
+use Rattle.book.specs.Answers.{triple, viewNumbers, numbers}
 use Rattle.book.specs.Servers.{holds, partitionOf}
 use Rattle.book.specs.Views.{decidedView}
 use Rattle.book.specs.SessionSteps.{snapshot, start, readAnswer, read, write}
