@@ -2,6 +2,7 @@
 use Prim.Native.Nat.{ℕ, zero, suc, _≤_, _<_, _^_}
 use mathlib.Core.Bool.{Bool, true, false, cond, _&&_}
 use mathlib.Core.Path.{_≡_, refl}
+use native.Mathlib.Nat.{le-trans}
 use native.Mathlib.Omega.{arith}
 use lib.Dec.{eqb, ltb, leb}
 use borrow.Author.Tests.{eqb-true, eq-eqb, leb-true, leb-false, ltb-true, le-leb, lt-ltb}
@@ -10,7 +11,7 @@ use Rattle.book.specs.Cells.{Cell, Store, Halls, Partitions, Sessions, Transact
 use Rattle.book.specs.Cases.{by-test, and-true, and-i, implies, implies-true}
 use Rattle.book.specs.Folds.{all, all-at, all-i, largest-within}
 use Rattle.book.specs.Setup.{goodSetup, partitionsHeld}
-use Rattle.book.specs.Servers.{holds, firstFrom, writer}
+use Rattle.book.specs.Servers.{holds, holds-hall, holds-partition, firstFrom, writer}
 use Rattle.book.specs.WellFormed.{timeBound, channelOk, serverOk, sessionOk, pairOk, transactionOk, sharedOk, wellFormed}
 
 -- P holds of the cells c i, c i j, .. with i below l, j below m, ..
@@ -182,12 +183,9 @@ layout σ e =
       homes = λ s l. implies-true (ltb s (σ Sessions)) _ (all-at 16 _ homes s (omega arith)) (lt-ltb s (σ Sessions) l);
     }
 
--- a server's numbers are below how many there are, and small
-pub server-in : (σ : Store) (h p : ℕ) → holds σ h p ≡ true → (h < σ Halls) × (p < σ Partitions)
-server-in σ h p e = search parts
-
+-- a server's numbers are small
 pub server-small : (σ : Store) → Layout σ → (h p : ℕ) → holds σ h p ≡ true → (h < 4) × (p < 4)
-server-small σ L h p e = let w = server-in σ h p e in omega arith
+server-small σ L h p e = (le-trans (holds-hall σ h p e) (L .halls), le-trans (holds-partition σ h p e) (L .partitions))
 
 from-small : (ok : ℕ → Bool) (m n h : ℕ) → h < m → firstFrom ok m n h < m
 unfolding firstFrom

@@ -11,7 +11,7 @@ use Rattle.book.specs.Cells.{Cell, Store, same, _⟨_≔_⟩, Halls, Partitions
 use Rattle.book.specs.Cases.{by-test, by-eq, by-cell, and-true, unwritten, at-same}
 use Rattle.book.specs.Folds.{lowest-within, largest-within}
 use Rattle.book.specs.Sets.{member, include-lt}
-use Rattle.book.specs.Servers.{holds, writer}
+use Rattle.book.specs.Servers.{holds, holds-hall, writer}
 use Rattle.book.specs.WellFormed.{timeBound}
 use Rattle.book.specs.Answers.{numbers}
 use Rattle.book.specs.SessionSteps.{snapshot, start, read, write, ask, readAnswer, touches}
@@ -21,7 +21,7 @@ use Rattle.book.specs.GossipSteps.{lowestEntry, report, lowestOf, share, lowest
 use Rattle.book.specs.Steps.{after}
 use Rattle.theorems.specs.Step.{Step, next}
 use Rattle.theorems.specs.Tally.{prepared-le, prepared-lt}
-use Rattle.theorems.specs.Formed.{All1, All2, All3, Times, Formed, Layout, layout, server-in, server-small, writer-small}
+use Rattle.theorems.specs.Formed.{All1, All2, All3, Times, Formed, Layout, layout, server-small, writer-small}
 
 -- what holds of both holds of the one that is chosen
 of-both : (P : ℕ → Type 0) (b : Bool) (v w : ℕ) → P v → P w → P (cond b v w)
@@ -119,7 +119,7 @@ module _ (σ : Store) (F : Formed σ) where
   ask-formed : (s : ℕ) → s < σ Sessions → σ Transactions < 64 → Formed (ask σ s)
   ask-formed s l m =
       let t = σ Transactions in
-      let home = server-in σ (σ (HomeHall s)) (σ (HomePartition s)) (L .homes s l) .0 in
+      let home = holds-hall σ (σ (HomeHall s)) (σ (HomePartition s)) (L .homes s l) in
       let asks : ℕ → ℕ → Bool = λ u p. eqb t u && touches σ (σ (WriteSet s)) p in
       let free : (u p : ℕ) → u < 64 → p < 4 → t ≡ u → σ (State u p) ≤ 0 =
       λ u p i j q. rw (le-ltb u t (omega arith)) at (F .state u p i j) in

@@ -9,11 +9,10 @@ use Rattle.book.specs.declared.Stamp.{Stamp}
 use Rattle.book.specs.declared.View.{View}
 use Rattle.book.specs.declared.View.the-variants.{Nothing, Seen}
 use Rattle.book.specs.Sizes.{placesMax}
-use Rattle.book.specs.Cells.{Store, From, CommitTime, Value}
-use Rattle.book.specs.Answers.{stamp}
+use Rattle.book.specs.Cells.{Store, Value}
 use Rattle.book.specs.Cases.{by-test, by-eq}
 use Rattle.book.specs.Servers.{numberOf}
-use Rattle.book.specs.Views.{later, merge, mergeAll, version, wroteBy, decided, decidedView}
+use Rattle.book.specs.Views.{later, merge, mergeAll, stampOf, version, wroteBy, decided, decidedView}
 use Rattle.theorems.specs.Stamps.{later-order, later-self, neither-later, one-later}
 
 -- "nothing merged with a view is that view", on either side
@@ -70,10 +69,6 @@ merge-either : (P : View → Type 0) (a b : View) → P a → P b → P (merge a
 merge-either P Nothing b x y = y
 merge-either P (Seen v s) Nothing x y = x
 merge-either P (Seen v s) (Seen w t) x y = by-test (later t s) (λ c. rw c y) (λ c. rw c x)
-
--- transaction t's stamp
-abbrev pub stampOf : Store → ℕ → Stamp
-stampOf σ t = stamp (σ (CommitTime t)) (σ (From t)) (numberOf t)
 
 -- Views of one store. "equal stamps of a key carry equal values": stamps that are equal are of one transaction. Of every store, so of every reached one.
 pub equal-stamps : (σ : Store) (k t u : ℕ)

@@ -13,13 +13,13 @@ use Rattle.book.specs.Cases.{by-test, by-eq, and-true}
 use Rattle.book.specs.Sets.{member}
 use Rattle.book.specs.Answers.{triple, numbers}
 use Rattle.book.specs.Servers.{holds, partitionOf}
-use Rattle.book.specs.Views.{later, version, decided, decidedView}
+use Rattle.book.specs.Views.{later, stampOf, version, decided, decidedView}
 use Rattle.book.specs.Steps.{refusal, answer}
 use Rattle.book.specs.Reached.{Reached}
 use Rattle.theorems.specs.Formed.{formed}
 use Rattle.theorems.specs.WellFormedKept.{reached-well-formed}
 use Rattle.theorems.specs.Stamps.{later-self}
-use Rattle.theorems.specs.Merge.{stampOf, latest}
+use Rattle.theorems.specs.Merge.{latest}
 use Rattle.theorems.specs.Reach.{reached-inv}
 use Rattle.theorems.specs.ReadAnswer.{read-answer, reached-cached}
 use Rattle.theorems.specs.OwnWrites.{CachedFrom, reached-own, own-writes}
