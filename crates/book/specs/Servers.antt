@@ -1,14 +1,24 @@
 -- Which servers there are, and which of them a session and a transaction use.
-use Prim.Native.Nat.{ℕ, zero, suc, _-_, _%_}
-use mathlib.Core.Bool.{Bool, cond, _&&_}
+use Prim.Native.Nat.{ℕ, zero, suc, _-_, _%_, _<_}
+use mathlib.Core.Bool.{Bool, true, cond, _&&_}
+use mathlib.Core.Path.{_≡_}
 use lib.Dec.{ltb, leb}
-use Rattle.book.specs.Sizes.{hallsMax}
+use borrow.Author.Tests.{ltb-true}
 use Rattle.book.specs.Cells.{Cell, Store, Halls, Partitions, Mask, HomeHall, HomePartition, From}
+use Rattle.book.specs.Cases.{and-true}
 use Rattle.book.specs.Sets.{member}
 
 -- "A server is a (hall, partition) pair with its bit set."
 abbrev pub holds : Store → ℕ → ℕ → Bool
 holds σ h p = ltb h (σ Halls) && (ltb p (σ Partitions) && member (σ (Mask h)) p)
+
+-- it stands in a hall that is there, for a partition that is there
+pub holds-hall : (σ : Store) (h p : ℕ) → holds σ h p ≡ true → h < σ Halls
+holds-hall σ h p e = ltb-true h (σ Halls) (and-true (ltb h (σ Halls)) _ e .0)
+
+pub holds-partition : (σ : Store) (h p : ℕ) → holds σ h p ≡ true → p < σ Partitions
+holds-partition σ h p e =
+    ltb-true p (σ Partitions) (and-true (ltb p (σ Partitions)) _ (and-true (ltb h (σ Halls)) _ e .1) .0)
 
 -- "key k in partition k mod N"
 abbrev pub partitionOf : Store → ℕ → ℕ

@@ -29,9 +29,13 @@ unfoldable pub mergeAll : ℕ → (ℕ → Bool) → (ℕ → View) → View
 mergeAll zero ok f = Nothing
 mergeAll (suc n) ok f = merge (mergeAll n ok f) (cond (ok n) (f n) Nothing)
 
--- what transaction t wrote to key k: "a value with its stamp"
+-- transaction t's stamp
+abbrev pub stampOf : Store → ℕ → Stamp
+stampOf σ t = stamp (σ (CommitTime t)) (σ (From t)) (numberOf t)
+
+-- what it wrote to key k: "a value with its stamp"
 abbrev pub version : Store → ℕ → ℕ → View
-version σ k t = Seen (σ (Value t k)) (stamp (σ (CommitTime t)) (σ (From t)) (numberOf t))
+version σ k t = Seen (σ (Value t k)) (stampOf σ t)
 
 abbrev pub decided : Store → ℕ → Bool
 decided σ t = ltb 0 (σ (CommitTime t))

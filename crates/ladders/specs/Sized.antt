@@ -1,14 +1,15 @@
 -- What the ladders ask of a store: its counts are in range, so that what is there has a cell.
 use Prim.Native.Nat.{ℕ, _-_, _≤_, _<_}
-use mathlib.Core.Bool.{true, _&&_}
+use mathlib.Core.Bool.{true}
 use mathlib.Core.Path.{_≡_}
+use native.Mathlib.Nat.{le-trans}
 use native.Mathlib.Omega.{arith}
-use lib.Dec.{ltb, leb}
+use lib.Dec.{leb}
 use borrow.Author.Tests.{ltb-true, leb-true}
 use Rattle.book.specs.Sizes.{hallsMax, partitionsMax, sessionsMax, placesMax}
 use Rattle.book.specs.Cells.{Store, Halls, Partitions, Sessions, Transactions}
 use Rattle.book.specs.Cases.{and-true}
-use Rattle.book.specs.Servers.{holds}
+use Rattle.book.specs.Servers.{holds, holds-hall, holds-partition}
 use Rattle.book.specs.Refusals.{sessionThere, transactionThere}
 
 pub record Sized (σ : Store) : Type 0 where
@@ -20,14 +21,7 @@ pub record Sized (σ : Store) : Type 0 where
 
 -- a server that is there has cells
 pub server-in : (σ : Store) → Sized σ → (h p : ℕ) → holds σ h p ≡ true → (h < hallsMax) × (p < partitionsMax)
-server-in σ S h p e =
-    let a = and-true (ltb h (σ Halls)) _ e in
-    let b = and-true (ltb p (σ Partitions)) _ (a .1) in
-    let x = ltb-true h (σ Halls) (a .0) in
-    let y = ltb-true p (σ Partitions) (b .0) in
-    let u = S .halls in
-    let v = S .partitions in
-    (omega arith, omega arith)
+server-in σ S h p e = (le-trans (holds-hall σ h p e) (S .halls), le-trans (holds-partition σ h p e) (S .partitions))
 
 -- so does a session
 pub session-in : (σ : Store) → Sized σ → (s : ℕ) → sessionThere σ s ≡ true → s < sessionsMax

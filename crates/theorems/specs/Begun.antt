@@ -13,10 +13,9 @@ use Rattle.book.specs.Cells.{Store, Halls, Partitions, Sessions, Mask}
 use Rattle.book.specs.Cases.{implies, by-eq, and-true, and-i, implies-true}
 use Rattle.book.specs.Folds.{all, any-true, any-i, all-at, largest-ge, largest-within}
 use Rattle.book.specs.Sets.{member, member-zero, member-suc, member-none}
-use Rattle.book.specs.Servers.{holds}
+use Rattle.book.specs.Servers.{holds, holds-partition}
 use Rattle.book.specs.Setup.{heldSomewhere, partitionsHeld, goodHalls, goodSetup, firstStore, setupRefusal}
 use Rattle.theorems.specs.Inv.{Setup, Inv}
-use Rattle.theorems.specs.Gossip.{holds-partition}
 
 -- a set of numbers below n that is not 0 has one
 pub some-bit : (n m : ℕ) → 0 < m → m < 2 ^ n → (p : ℕ) × (p < n) × (member m p ≡ true)

@@ -2,15 +2,16 @@
 use Prim.Native.Nat.{ℕ, zero, suc, _≤_, _<_, _^_}
 use mathlib.Core.Bool.{Bool, true, false, cond, _&&_}
 use mathlib.Core.Path.{_≡_, refl}
+use native.Mathlib.Nat.{le-trans}
 use native.Mathlib.Omega.{arith}
 use lib.Dec.{eqb, ltb, leb}
 use borrow.Author.Tests.{eqb-true, eq-eqb, leb-true, leb-false, ltb-true, le-leb, lt-ltb}
-use Rattle.book.specs.Sizes.{readingMax, keys}
+use Rattle.book.specs.Sizes.{hallsMax, partitionsMax, sessionsMax, keys, placesMax, slots, readingMax}
 use Rattle.book.specs.Cells.{Cell, Store, Halls, Partitions, Sessions, Transactions, Reading, Hybrid, Stable, Entry, HomeHall, HomePartition, Status, Snapshot, LastCommit, WriteSet, ReadSet, CacheTime, By, From, CommitTime, KeySet, State, Proposed, First, Waiting, ClockSent, Note, Shared}
 use Rattle.book.specs.Cases.{by-test, and-true, and-i, implies, implies-true}
 use Rattle.book.specs.Folds.{all, all-at, all-i, largest-within}
 use Rattle.book.specs.Setup.{goodSetup, partitionsHeld}
-use Rattle.book.specs.Servers.{holds, firstFrom, writer}
+use Rattle.book.specs.Servers.{holds, holds-hall, holds-partition, firstFrom, writer}
 use Rattle.book.specs.WellFormed.{timeBound, channelOk, serverOk, sessionOk, pairOk, transactionOk, sharedOk, wellFormed}
 
 -- P holds of the cells c i, c i j, .. with i below l, j below m, ..
@@ -26,35 +27,35 @@ All3 P σ c l m n = (i j k : ℕ) → i < l → j < m → k < n → P (σ (c i j
 -- every timestamp is at most b
 abbrev pub Times : Store → ℕ → Type 0
 Times σ b = record {
-  hybrid : All2 (_≤ b) σ Hybrid 4 4;
-  stable : All2 (_≤ b) σ Stable 4 4;
-  entry : All3 (_≤ b) σ Entry 4 4 4;
-  snapshot : All1 (_≤ b) σ Snapshot 16;
-  last : All1 (_≤ b) σ LastCommit 16;
-  cached : All2 (_≤ b) σ CacheTime 16 32;
-  commit : All1 (_≤ b) σ CommitTime 64;
-  proposed : All2 (_≤ b) σ Proposed 64 4;
-  sent : (g p f n : ℕ) → g < 4 → p < 4 → f < 4 → n < 8 → σ (ClockSent g p f n) ≤ b;
-  note : All2 (_≤ b) σ Note 4 4;
-  shared : All2 (_≤ b) σ Shared 4 4;
+  hybrid : All2 (_≤ b) σ Hybrid hallsMax partitionsMax;
+  stable : All2 (_≤ b) σ Stable hallsMax partitionsMax;
+  entry : All3 (_≤ b) σ Entry hallsMax partitionsMax hallsMax;
+  snapshot : All1 (_≤ b) σ Snapshot sessionsMax;
+  last : All1 (_≤ b) σ LastCommit sessionsMax;
+  cached : All2 (_≤ b) σ CacheTime sessionsMax keys;
+  commit : All1 (_≤ b) σ CommitTime placesMax;
+  proposed : All2 (_≤ b) σ Proposed placesMax partitionsMax;
+  sent : (g p f n : ℕ) → g < hallsMax → p < partitionsMax → f < hallsMax → n < slots → σ (ClockSent g p f n) ≤ b;
+  note : All2 (_≤ b) σ Note hallsMax partitionsMax;
+  shared : All2 (_≤ b) σ Shared hallsMax hallsMax;
 }
 
 abbrev pub Formed : Store → Type 0
 Formed σ = record {
   setup : goodSetup σ ≡ true;
   times : Times σ (timeBound σ);
-  reading : All2 (_≤ readingMax) σ Reading 4 4;
-  first : All3 (_< 8) σ First 4 4 4;
-  waiting : All3 (_≤ 8) σ Waiting 4 4 4;
-  status : All1 (_≤ 2) σ Status 16;
-  writes : All1 (_< 2 ^ keys) σ WriteSet 16;
-  reads : All1 (_< 2 ^ keys) σ ReadSet 16;
-  places : σ Transactions ≤ 64;
-  session : All1 (_< σ Sessions) σ By 64;
-  hall : All1 (_< σ Halls) σ From 64;
-  keys : All1 (_< 2 ^ keys) σ KeySet 64;
-  state : (t p : ℕ) → t < 64 → p < 4 → σ (State t p) ≤ cond (ltb t (σ Transactions)) 4 0;
-  prepared : (t p : ℕ) → t < 64 → p < 4 → σ (State t p) ≡ 2 → 1 ≤ σ (Proposed t p);
+  reading : All2 (_≤ readingMax) σ Reading hallsMax partitionsMax;
+  first : All3 (_< slots) σ First hallsMax partitionsMax hallsMax;
+  waiting : All3 (_≤ slots) σ Waiting hallsMax partitionsMax hallsMax;
+  status : All1 (_≤ 2) σ Status sessionsMax;
+  writes : All1 (_< 2 ^ keys) σ WriteSet sessionsMax;
+  reads : All1 (_< 2 ^ keys) σ ReadSet sessionsMax;
+  places : σ Transactions ≤ placesMax;
+  session : All1 (_< σ Sessions) σ By placesMax;
+  hall : All1 (_< σ Halls) σ From placesMax;
+  keys : All1 (_< 2 ^ keys) σ KeySet placesMax;
+  state : (t p : ℕ) → t < placesMax → p < partitionsMax → σ (State t p) ≤ cond (ltb t (σ Transactions)) 4 0;
+  prepared : (t p : ℕ) → t < placesMax → p < partitionsMax → σ (State t p) ≡ 2 → 1 ≤ σ (Proposed t p);
 }
 
 and-l : (a b : Bool) → (a && b) ≡ true → a ≡ true
@@ -71,19 +72,19 @@ pub formed : (σ : Store) → wellFormed σ ≡ true → Formed σ
 unfolding wellFormed
 formed σ w =
     let b = timeBound σ in
-    let servers : all 4 (λ h. all 4 (λ p. serverOk σ b h p)) ≡ true = search parts in
-    let sessions : all 16 (λ s. sessionOk σ b s) ≡ true = search parts in
-    let transactions : all 64 (λ t. transactionOk σ b t) ≡ true = search parts in
-    let notes : all 4 (λ to. all 4 (λ f. sharedOk σ b to f)) ≡ true = search parts in
-    let server : (h p : ℕ) → h < 4 → p < 4 → serverOk σ b h p ≡ true = λ h p i j. all-at 4 _ (all-at 4 _ servers h i) p j in
-    let halls : (h p : ℕ) → h < 4 → p < 4 → all 4 (λ g. leb (σ (Entry h p g)) b && channelOk σ b h p g) ≡ true =
+    let servers : all hallsMax (λ h. all partitionsMax (λ p. serverOk σ b h p)) ≡ true = search parts in
+    let sessions : all sessionsMax (λ s. sessionOk σ b s) ≡ true = search parts in
+    let transactions : all placesMax (λ t. transactionOk σ b t) ≡ true = search parts in
+    let notes : all hallsMax (λ to. all hallsMax (λ f. sharedOk σ b to f)) ≡ true = search parts in
+    let server : (h p : ℕ) → h < hallsMax → p < partitionsMax → serverOk σ b h p ≡ true = λ h p i j. all-at partitionsMax _ (all-at hallsMax _ servers h i) p j in
+    let halls : (h p : ℕ) → h < hallsMax → p < partitionsMax → all hallsMax (λ g. leb (σ (Entry h p g)) b && channelOk σ b h p g) ≡ true =
     λ h p i j. let c = server h p i j in search parts in
-    let hall : (h p g : ℕ) → h < 4 → p < 4 → g < 4 → (leb (σ (Entry h p g)) b && channelOk σ b h p g) ≡ true =
-    λ h p g i j l. all-at 4 _ (halls h p i j) g l in
-    let session : (s : ℕ) → s < 16 → sessionOk σ b s ≡ true = all-at 16 _ sessions in
-    let transaction : (t : ℕ) → t < 64 → transactionOk σ b t ≡ true = all-at 64 _ transactions in
-    let pairs : (t : ℕ) → t < 64 → all 4 (λ p. pairOk σ b t p) ≡ true = λ t i. let c = transaction t i in search parts in
-    let pair : (t p : ℕ) → t < 64 → p < 4 → pairOk σ b t p ≡ true = λ t p i j. all-at 4 _ (pairs t i) p j in
+    let hall : (h p g : ℕ) → h < hallsMax → p < partitionsMax → g < hallsMax → (leb (σ (Entry h p g)) b && channelOk σ b h p g) ≡ true =
+    λ h p g i j l. all-at hallsMax _ (halls h p i j) g l in
+    let session : (s : ℕ) → s < sessionsMax → sessionOk σ b s ≡ true = all-at sessionsMax _ sessions in
+    let transaction : (t : ℕ) → t < placesMax → transactionOk σ b t ≡ true = all-at placesMax _ transactions in
+    let pairs : (t : ℕ) → t < placesMax → all partitionsMax (λ p. pairOk σ b t p) ≡ true = λ t i. let c = transaction t i in search parts in
+    let pair : (t p : ℕ) → t < placesMax → p < partitionsMax → pairOk σ b t p ≡ true = λ t p i j. all-at partitionsMax _ (pairs t i) p j in
     record {
       setup = search parts;
       times = record {
@@ -92,13 +93,13 @@ formed σ w =
         entry = λ h p g i j l. let c = hall h p g i j l in search parts;
         snapshot = λ s i. let c = session s i in search parts;
         last = λ s i. let c = session s i in search parts;
-        cached = λ s k i j. let c = session s i in leb-true _ _ (all-at 32 (λ k. leb (σ (CacheTime s k)) b) (search parts) k j);
+        cached = λ s k i j. let c = session s i in leb-true _ _ (all-at keys (λ k. leb (σ (CacheTime s k)) b) (search parts) k j);
         commit = λ t i. let c = transaction t i in search parts;
         proposed = λ t p i j. let c = pair t p i j in search parts;
         sent = λ g p f n i j l m.
-            let c = hall g p f i j l in leb-true _ _ (all-at 8 (λ n. leb (σ (ClockSent g p f n)) b) (search parts) n m);
+            let c = hall g p f i j l in leb-true _ _ (all-at slots (λ n. leb (σ (ClockSent g p f n)) b) (search parts) n m);
         note = λ h p i j. let c = server h p i j in search parts;
-        shared = λ to f i j. leb-true _ _ (all-at 4 _ (all-at 4 _ notes to i) f j);
+        shared = λ to f i j. leb-true _ _ (all-at hallsMax _ (all-at hallsMax _ notes to i) f j);
       };
       reading = λ h p i j. let c = server h p i j in search parts;
       first = λ g p f i j l. let c = hall g p f i j l in search parts;
@@ -161,33 +162,30 @@ well-formed σ F =
 abbrev pub Layout : Store → Type 0
 Layout σ = record {
   hall : 1 ≤ σ Halls;
-  halls : σ Halls ≤ 4;
-  partitions : σ Partitions ≤ 4;
+  halls : σ Halls ≤ hallsMax;
+  partitions : σ Partitions ≤ partitionsMax;
   session : 1 ≤ σ Sessions;
-  sessions : σ Sessions ≤ 16;
+  sessions : σ Sessions ≤ sessionsMax;
   homes : (s : ℕ) → s < σ Sessions → holds σ (σ (HomeHall s)) (σ (HomePartition s)) ≡ true;
 }
 
 pub layout : (σ : Store) → goodSetup σ ≡ true → Layout σ
 layout σ e =
-    let sessions : σ Sessions ≤ 16 = search parts in
+    let sessions : σ Sessions ≤ sessionsMax = search parts in
     let held : eqb (σ Partitions) (partitionsHeld σ) ≡ true = search parts in
-    let homes : all 16 (λ s. implies (ltb s (σ Sessions)) (holds σ (σ (HomeHall s)) (σ (HomePartition s)))) ≡ true = search parts in
+    let homes : all sessionsMax (λ s. implies (ltb s (σ Sessions)) (holds σ (σ (HomeHall s)) (σ (HomePartition s)))) ≡ true = search parts in
     record {
       hall = search parts;
       halls = search parts;
-      partitions = rw (eqb-true (σ Partitions) (partitionsHeld σ) held) (largest-within 4 _ (λ p. suc p) 4 (λ p l. l));
+      partitions = rw (eqb-true (σ Partitions) (partitionsHeld σ) held) (largest-within partitionsMax _ (λ p. suc p) partitionsMax (λ p l. l));
       session = search parts;
       sessions = sessions;
-      homes = λ s l. implies-true (ltb s (σ Sessions)) _ (all-at 16 _ homes s (omega arith)) (lt-ltb s (σ Sessions) l);
+      homes = λ s l. implies-true (ltb s (σ Sessions)) _ (all-at sessionsMax _ homes s (omega arith)) (lt-ltb s (σ Sessions) l);
     }
 
--- a server's numbers are below how many there are, and small
-pub server-in : (σ : Store) (h p : ℕ) → holds σ h p ≡ true → (h < σ Halls) × (p < σ Partitions)
-server-in σ h p e = search parts
-
-pub server-small : (σ : Store) → Layout σ → (h p : ℕ) → holds σ h p ≡ true → (h < 4) × (p < 4)
-server-small σ L h p e = let w = server-in σ h p e in omega arith
+-- a server's numbers are small
+pub server-small : (σ : Store) → Layout σ → (h p : ℕ) → holds σ h p ≡ true → (h < hallsMax) × (p < partitionsMax)
+server-small σ L h p e = (le-trans (holds-hall σ h p e) (L .halls), le-trans (holds-partition σ h p e) (L .partitions))
 
 from-small : (ok : ℕ → Bool) (m n h : ℕ) → h < m → firstFrom ok m n h < m
 unfolding firstFrom
@@ -198,7 +196,7 @@ from-small ok m (suc n) h l =
     (λ c. rw c (from-small ok m n _ (by-test (leb m (suc h)) (λ d. rw d (omega arith)) (λ d. let x = leb-false m (suc h) d in rw d (omega arith)))))
 
 -- the writing hall of a transaction is small
-pub writer-small : (σ : Store) → Formed σ → (t p : ℕ) → t < 64 → writer σ t p < 4
+pub writer-small : (σ : Store) → Formed σ → (t p : ℕ) → t < placesMax → writer σ t p < hallsMax
 writer-small σ F t p i =
     let a = layout σ (F .setup) .halls in
     let b = from-small (λ h. holds σ h p) (σ Halls) (σ Halls) (σ (From t)) (F .hall t i) in

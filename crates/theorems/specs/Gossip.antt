@@ -5,25 +5,17 @@ use mathlib.Core.Path.{_≡_}
 use native.Mathlib.Nat.{le-trans}
 use native.Mathlib.Omega.{arith}
 use lib.Dec.{ltb}
-use borrow.Author.Tests.{ltb-true, lt-ltb}
+use borrow.Author.Tests.{lt-ltb}
 use Rattle.book.specs.Sizes.{hallsMax, partitionsMax}
-use Rattle.book.specs.Cells.{Store, Halls, Partitions, Stable, Entry, HomeHall, HomePartition, Snapshot, Note, Shared}
-use Rattle.book.specs.Cases.{and-true, by-cell}
+use Rattle.book.specs.Cells.{Store, Halls, Stable, Entry, HomeHall, HomePartition, Snapshot, Note, Shared}
+use Rattle.book.specs.Cases.{by-cell}
 use Rattle.book.specs.Folds.{lowest-le}
-use Rattle.book.specs.Servers.{holds, atHome}
+use Rattle.book.specs.Servers.{holds, holds-hall, holds-partition, atHome}
 use Rattle.book.specs.SessionSteps.{snapshot, start}
 use Rattle.book.specs.GossipSteps.{report, share, learn}
 use Rattle.theorems.specs.Inv.{Setup, GossipOver, Gossip, Inv}
 
--- a server stands in a hall that is there, for a partition that is there
-pub holds-hall : (σ : Store) (h p : ℕ) → holds σ h p ≡ true → h < σ Halls
-holds-hall σ h p e = ltb-true h (σ Halls) (and-true (ltb h (σ Halls)) _ e .0)
-
-pub holds-partition : (σ : Store) (h p : ℕ) → holds σ h p ≡ true → p < σ Partitions
-holds-partition σ h p e =
-    ltb-true p (σ Partitions) (and-true (ltb p (σ Partitions)) _ (and-true (ltb h (σ Halls)) _ e .1) .0)
-
--- and so it stands in one of 4 halls, for one of 4 partitions
+-- a server stands in one of 4 halls, for one of 4 partitions
 pub hall-fits : (σ : Store) → Setup σ → (h p : ℕ) → holds σ h p ≡ true → h < hallsMax
 hall-fits σ U h p e = le-trans (holds-hall σ h p e) (U .halls .1)
 

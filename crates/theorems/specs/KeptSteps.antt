@@ -6,12 +6,12 @@ use native.Mathlib.Nat.{le-trans}
 use native.Mathlib.Omega.{arith}
 use lib.Dec.{eqb, ltb, leb}
 use borrow.Author.Tests.{lt-ltb, le-ltb, ltb-true, eqb-true}
-use Rattle.book.specs.Sizes.{readingMax, keys}
+use Rattle.book.specs.Sizes.{hallsMax, partitionsMax, sessionsMax, keys, placesMax, slots, readingMax}
 use Rattle.book.specs.Cells.{Cell, Store, same, _⟨_≔_⟩, Halls, Partitions, Sessions, Transactions, Reading, Hybrid, Stable, Entry, HomeHall, HomePartition, Status, Snapshot, LastCommit, WriteSet, ReadSet, CacheTime, By, From, CommitTime, KeySet, State, Proposed, First, Waiting, ClockSent, Note, Shared}
 use Rattle.book.specs.Cases.{by-test, by-eq, by-cell, and-true, unwritten, at-same}
 use Rattle.book.specs.Folds.{lowest-within, largest-within}
 use Rattle.book.specs.Sets.{member, include-lt}
-use Rattle.book.specs.Servers.{holds, writer}
+use Rattle.book.specs.Servers.{holds, holds-hall, writer}
 use Rattle.book.specs.WellFormed.{timeBound}
 use Rattle.book.specs.Answers.{numbers}
 use Rattle.book.specs.SessionSteps.{snapshot, start, read, write, ask, readAnswer, touches}
@@ -21,7 +21,7 @@ use Rattle.book.specs.GossipSteps.{lowestEntry, report, lowestOf, share, lowest
 use Rattle.book.specs.Steps.{after}
 use Rattle.theorems.specs.Step.{Step, next}
 use Rattle.theorems.specs.Tally.{prepared-le, prepared-lt}
-use Rattle.theorems.specs.Formed.{All1, All2, All3, Times, Formed, Layout, layout, server-in, server-small, writer-small}
+use Rattle.theorems.specs.Formed.{All1, All2, All3, Times, Formed, Layout, layout, server-small, writer-small}
 
 -- what holds of both holds of the one that is chosen
 of-both : (P : ℕ → Type 0) (b : Bool) (v w : ℕ) → P v → P w → P (cond b v w)
@@ -93,7 +93,7 @@ module _ (σ : Store) (F : Formed σ) where
       let new : snapshot σ s ≤ b = omega arith in
       let stable = put2 (_≤ b) σ Stable h p _ new (T .stable) in
       let snapshots = put1 (_≤ b) σ Snapshot s _ new (T .snapshot) in
-      let cached : All2 (_≤ b) (start σ s) CacheTime 16 32 =
+      let cached : All2 (_≤ b) (start σ s) CacheTime sessionsMax keys =
       λ a k i j. of-both (_≤ b) (eqb s a && leb (σ (CacheTime a k)) (snapshot σ s)) _ _ (omega arith) (T .cached a k i j) in
       let status = put1 (_≤ 2) σ Status s 1 (omega arith) (F .status) in
       let writes = put1 (_< 2 ^ keys) σ WriteSet s 0 (omega arith) (F .writes) in
@@ -103,51 +103,51 @@ module _ (σ : Store) (F : Formed σ) where
   read-formed : (s k h : ℕ) → s < σ Sessions → k < keys → Formed (read σ s k h)
   read-formed s k h l m =
       let x = F .reads s (omega (arith, L)) in
-      let new = of-both (_< 2 ^ keys) (eqb (numbers (readAnswer σ s k h) .first) 1) _ _ (include-lt 32 _ k x m) x in
+      let new = of-both (_< 2 ^ keys) (eqb (numbers (readAnswer σ s k h) .first) 1) _ _ (include-lt keys _ k x m) x in
       let reads = put1 (_< 2 ^ keys) σ ReadSet s _ new (F .reads) in
       search
 
   write-formed : (s k v : ℕ) → s < σ Sessions → k < keys → Formed (write σ s k v)
   write-formed s k v l m =
-      let new = include-lt 32 _ k (F .writes s (omega (arith, L))) m in
+      let new = include-lt keys _ k (F .writes s (omega (arith, L))) m in
       let writes = put1 (_< 2 ^ keys) σ WriteSet s _ new (F .writes) in
       search
 
   rest-formed : (s : ℕ) → Formed (σ ⟨ Status s ≔ 0 ⟩)
   rest-formed s = let status = put1 (_≤ 2) σ Status s 0 (omega arith) (F .status) in search
 
-  ask-formed : (s : ℕ) → s < σ Sessions → σ Transactions < 64 → Formed (ask σ s)
+  ask-formed : (s : ℕ) → s < σ Sessions → σ Transactions < placesMax → Formed (ask σ s)
   ask-formed s l m =
       let t = σ Transactions in
-      let home = server-in σ (σ (HomeHall s)) (σ (HomePartition s)) (L .homes s l) .0 in
+      let home = holds-hall σ (σ (HomeHall s)) (σ (HomePartition s)) (L .homes s l) in
       let asks : ℕ → ℕ → Bool = λ u p. eqb t u && touches σ (σ (WriteSet s)) p in
-      let free : (u p : ℕ) → u < 64 → p < 4 → t ≡ u → σ (State u p) ≤ 0 =
+      let free : (u p : ℕ) → u < placesMax → p < partitionsMax → t ≡ u → σ (State u p) ≤ 0 =
       λ u p i j q. rw (le-ltb u t (omega arith)) at (F .state u p i j) in
-      let up : (u p : ℕ) → u < 64 → p < 4 → σ (State u p) ≤ ask σ s (State u p) =
+      let up : (u p : ℕ) → u < placesMax → p < partitionsMax → σ (State u p) ≤ ask σ s (State u p) =
       λ u p i j. by-eq t u (λ q c. let x = free u p i j q in omega arith) (λ q c. rw c (omega arith)) in
       let more = prepared-le σ (ask σ s) up in
       let times = times-le σ b (timeBound (ask σ s)) (omega arith) T in
       let status = put1 (_≤ 2) σ Status s 2 (omega arith) (F .status) in
-      let places : ask σ s Transactions ≤ 64 = m in
+      let places : ask σ s Transactions ≤ placesMax = m in
       let session = put1 (_< σ Sessions) σ By t s l (F .session) in
       let hall = put1 (_< σ Halls) σ From t _ home (F .hall) in
       let keys = put1 (_< 2 ^ keys) σ KeySet t _ (F .writes s (omega (arith, L))) (F .keys) in
-      let state : (u p : ℕ) → u < 64 → p < 4 → ask σ s (State u p) ≤ cond (ltb u (suc t)) 4 0 =
+      let state : (u p : ℕ) → u < placesMax → p < partitionsMax → ask σ s (State u p) ≤ cond (ltb u (suc t)) 4 0 =
       λ u p i j. by-eq t u
       (λ q c. rw (lt-ltb u (suc t) (omega arith))
       (of-both (_≤ 4) (asks u p) _ _ (omega arith) (let x = free u p i j q in omega arith)))
       (λ q c. rw c (le-trans (F .state u p i j) (limit-le u t (suc t) (omega arith)))) in
-      let prepared : (u p : ℕ) → u < 64 → p < 4 → ask σ s (State u p) ≡ 2 → 1 ≤ σ (Proposed u p) =
+      let prepared : (u p : ℕ) → u < placesMax → p < partitionsMax → ask σ s (State u p) ≡ 2 → 1 ≤ σ (Proposed u p) =
       λ u p i j e. F .prepared u p i j (unwritten (asks u p) 1 _ 2 (λ x. omega arith) e .1) in
       search
 
   -- a pair's state raised
   module _ (t p v : ℕ) (l : t < σ Transactions) (m : v ≤ 4) (e : σ (State t p) ≤ v) where
-    raised : (u q : ℕ) → u < 64 → q < 4 → σ (State u q) ≤ (σ ⟨ State t p ≔ v ⟩) (State u q)
+    raised : (u q : ℕ) → u < placesMax → q < partitionsMax → σ (State u q) ≤ (σ ⟨ State t p ≔ v ⟩) (State u q)
     raised u q i j =
         by-cell (State t p) (State u q) (λ k c. rw (c, ← k .i, ← k .j) e) (λ c. rw c (omega arith))
 
-    raised-state : (u q : ℕ) → u < 64 → q < 4 → (σ ⟨ State t p ≔ v ⟩) (State u q) ≤ cond (ltb u (σ Transactions)) 4 0
+    raised-state : (u q : ℕ) → u < placesMax → q < partitionsMax → (σ ⟨ State t p ≔ v ⟩) (State u q) ≤ cond (ltb u (σ Transactions)) 4 0
     raised-state u q i j =
         by-cell (State t p) (State u q)
         (λ k c. rw (c, ← k .i, lt-ltb t (σ Transactions) l) m)
@@ -155,8 +155,8 @@ module _ (σ : Store) (F : Formed σ) where
 
   prepare-formed : (t p : ℕ) → t < σ Transactions → p < σ Partitions → σ (State t p) ≡ 1 → Formed (prepare σ t p)
   prepare-formed t p l m e =
-      let i : t < 64 = omega (arith, F .places) in
-      let j : p < 4 = omega (arith, L) in
+      let i : t < placesMax = omega (arith, F .places) in
+      let j : p < partitionsMax = omega (arith, L) in
       let w = writer-small σ F t p i in
       let k = F .session t i in
       let r = F .reading (writer σ t p) p w j in
@@ -171,18 +171,18 @@ module _ (σ : Store) (F : Formed σ) where
       let hybrid = put2 (_≤ B) σ Hybrid (writer σ t p) p _ new (times .hybrid) in
       let proposed = put2 (_≤ B) σ Proposed t p _ new (times .proposed) in
       let state = raised-state t p 2 l (omega arith) (omega arith) in
-      let prepared : (u q : ℕ) → u < 64 → q < 4 → prepare σ t p (State u q) ≡ 2 → 1 ≤ prepare σ t p (Proposed u q) =
+      let prepared : (u q : ℕ) → u < placesMax → q < partitionsMax → prepare σ t p (State u q) ≡ 2 → 1 ≤ prepare σ t p (Proposed u q) =
       λ u q i j e. by-cell (State t p) (State u q) (λ k c. rw c (omega arith)) (λ c. rw c (F .prepared u q i j (rw c at e))) in
       search
 
   decide-formed : (t : ℕ) → t < σ Transactions → Formed (decide σ t)
   decide-formed t l =
       let s = σ (By t) in
-      let i : t < 64 = omega (arith, F .places) in
-      let new : decision σ t ≤ b = largest-within 4 _ (λ p. σ (Proposed t p)) b (λ p j. T .proposed t p i j) in
+      let i : t < placesMax = omega (arith, F .places) in
+      let new : decision σ t ≤ b = largest-within partitionsMax _ (λ p. σ (Proposed t p)) b (λ p j. T .proposed t p i j) in
       let commit = put1 (_≤ b) σ CommitTime t _ new (T .commit) in
       let last = put1 (_≤ b) σ LastCommit s _ new (T .last) in
-      let cached : All2 (_≤ b) (decide σ t) CacheTime 16 32 =
+      let cached : All2 (_≤ b) (decide σ t) CacheTime sessionsMax keys =
       λ a k i j. of-both (_≤ b) (eqb s a && member (σ (KeySet t)) k) _ _ new (T .cached a k i j) in
       let writes = put1 (_< 2 ^ keys) σ WriteSet s 0 (omega arith) (F .writes) in
       let status = put1 (_≤ 2) σ Status s 0 (omega arith) (F .status) in
@@ -190,8 +190,8 @@ module _ (σ : Store) (F : Formed σ) where
 
   commit-formed : (t p : ℕ) → t < σ Transactions → p < σ Partitions → σ (State t p) ≡ 2 → Formed (commit σ t p)
   commit-formed t p l m e =
-      let i : t < 64 = omega (arith, F .places) in
-      let j : p < 4 = omega (arith, L) in
+      let i : t < placesMax = omega (arith, F .places) in
+      let j : p < partitionsMax = omega (arith, L) in
       let w = writer-small σ F t p i in
       let r = F .reading (writer σ t p) p w j in
       let h = T .hybrid (writer σ t p) p w j in
@@ -202,21 +202,21 @@ module _ (σ : Store) (F : Formed σ) where
       let times = times-le σ b B (omega arith) T in
       let hybrid = put2 (_≤ B) σ Hybrid (writer σ t p) p _ new (times .hybrid) in
       let state = raised-state t p 3 l (omega arith) (omega arith) in
-      let prepared : (u q : ℕ) → u < 64 → q < 4 → commit σ t p (State u q) ≡ 2 → 1 ≤ σ (Proposed u q) =
+      let prepared : (u q : ℕ) → u < placesMax → q < partitionsMax → commit σ t p (State u q) ≡ 2 → 1 ≤ σ (Proposed u q) =
       λ u q i j e. F .prepared u q i j (unwritten (same (State t p) (State u q)) 3 _ 2 (λ x. omega arith) e .1) in
       search
 
-  install-formed : (h p : ℕ) → holds σ h p ≡ true → ((g : ℕ) → g < 4 → sendsTo σ h p g ≡ true → σ (Waiting g p h) < 8)
+  install-formed : (h p : ℕ) → holds σ h p ≡ true → ((g : ℕ) → g < hallsMax → sendsTo σ h p g ≡ true → σ (Waiting g p h) < slots)
       → Formed (install σ h p)
   install-formed h p e room =
       let k = server-small σ L h p e in
       let r = F .reading h p (k .0) (k .1) in
       let y = T .hybrid h p (k .0) (k .1) in
-      let z = lowest-within 64 (preparedAt σ h p) (λ t. σ (Proposed t p)) b (λ t i. T .proposed t p i (k .1)) in
+      let z = lowest-within placesMax (preparedAt σ h p) (λ t. σ (Proposed t p)) b (λ t i. T .proposed t p i (k .1)) in
       let is : (t q : ℕ) → (eqb p q && installs σ h p t) ≡ true → σ (State t q) ≡ 3 = λ t q c.
       let a = and-true (eqb p q) _ c in
       rw (← eqb-true p q (a .0)) (eqb-true (σ (State t p)) 3 (and-true (eqb (σ (State t p)) 3) _ (a .1) .0)) in
-      let up : (t q : ℕ) → t < 64 → q < 4 → σ (State t q) ≤ install σ h p (State t q) = λ t q _ _.
+      let up : (t q : ℕ) → t < placesMax → q < partitionsMax → σ (State t q) ≤ install σ h p (State t q) = λ t q _ _.
       by-test (eqb p q && installs σ h p t) (λ c. let x = is t q c in rw c (omega arith)) (λ c. rw c (omega arith)) in
       let B = timeBound (install σ h p) in
       let more = prepared-le σ (install σ h p) up in
@@ -225,18 +225,18 @@ module _ (σ : Store) (F : Formed σ) where
       let times = times-le σ b B (omega arith) T in
       let hybrid = put2 (_≤ B) σ Hybrid h p _ after (times .hybrid) in
       let entry = put3 (_≤ B) σ Entry h p h _ clock (times .entry) in
-      let sent : (g q f n : ℕ) → g < 4 → q < 4 → f < 4 → n < 8 → install σ h p (ClockSent g q f n) ≤ B = λ g q f n i j l m.
+      let sent : (g q f n : ℕ) → g < hallsMax → q < partitionsMax → f < hallsMax → n < slots → install σ h p (ClockSent g q f n) ≤ B = λ g q f n i j l m.
       of-both (_≤ B) (outgoing σ h p g q f && eqb (nextSlot σ g q f) n) _ _ clock (times .sent g q f n i j l m) in
-      let waiting : All3 (_≤ 8) (install σ h p) Waiting 4 4 4 = λ g q f i j l. by-test (outgoing σ h p g q f)
+      let waiting : All3 (_≤ slots) (install σ h p) Waiting hallsMax partitionsMax hallsMax = λ g q f i j l. by-test (outgoing σ h p g q f)
       (λ c. let a = and-true (eqb p q) _ c in
       let d = and-true (eqb h f) _ (a .1) in
       rw (c, ← eqb-true p q (a .0), ← eqb-true h f (d .0)) (room g i (d .1)))
       (λ c. rw c (F .waiting g q f i j l)) in
-      let state : (t q : ℕ) → t < 64 → q < 4 → install σ h p (State t q) ≤ cond (ltb t (σ Transactions)) 4 0 = λ t q i j.
+      let state : (t q : ℕ) → t < placesMax → q < partitionsMax → install σ h p (State t q) ≤ cond (ltb t (σ Transactions)) 4 0 = λ t q i j.
       by-test (eqb p q && installs σ h p t)
       (λ c. let x = is t q c in let y = F .state t q i j in rw c (limit-some (ltb t (σ Transactions)) (omega arith)))
       (λ c. rw c (F .state t q i j)) in
-      let prepared : (t q : ℕ) → t < 64 → q < 4 → install σ h p (State t q) ≡ 2 → 1 ≤ σ (Proposed t q) =
+      let prepared : (t q : ℕ) → t < placesMax → q < partitionsMax → install σ h p (State t q) ≡ 2 → 1 ≤ σ (Proposed t q) =
       λ t q i j e. F .prepared t q i j (unwritten (eqb p q && installs σ h p t) 4 _ 2 (λ x. omega arith) e .1) in
       search
 
@@ -247,21 +247,21 @@ module _ (σ : Store) (F : Formed σ) where
       let new = T .sent g p f (slotOf σ g p f 0) (m .0) (m .1) (k .0) (omega arith) in
       let less = F .waiting g p f (m .0) (m .1) (k .0) in
       let entry = put3 (_≤ b) σ Entry g p f _ new (T .entry) in
-      let first = put3 (_< 8) σ First g p f (slotOf σ g p f 1) (omega arith) (F .first) in
-      let waiting = put3 (_≤ 8) σ Waiting g p f (σ (Waiting g p f) - 1) (omega arith) (F .waiting) in
+      let first = put3 (_< slots) σ First g p f (slotOf σ g p f 1) (omega arith) (F .first) in
+      let waiting = put3 (_≤ slots) σ Waiting g p f (σ (Waiting g p f) - 1) (omega arith) (F .waiting) in
       search
 
   report-formed : (h p : ℕ) → holds σ h p ≡ true → Formed (report σ h p)
   report-formed h p e =
       let k = server-small σ L h p e in
-      let new : lowestEntry σ h p ≤ b = lowest-within 4 _ (λ g. σ (Entry h p g)) b (λ g. T .entry h p g (k .0) (k .1)) in
+      let new : lowestEntry σ h p ≤ b = lowest-within hallsMax _ (λ g. σ (Entry h p g)) b (λ g. T .entry h p g (k .0) (k .1)) in
       let note = put2 (_≤ b) σ Note h p _ new (T .note) in
       search
 
   share-formed : (f to : ℕ) → f < σ Halls → Formed (share σ f to)
   share-formed f to l =
-      let k : f < 4 = omega (arith, L) in
-      let new : lowestOf σ f ≤ b = lowest-within 4 _ (λ p. σ (Note f p)) b (λ p. T .note f p k) in
+      let k : f < hallsMax = omega (arith, L) in
+      let new : lowestOf σ f ≤ b = lowest-within partitionsMax _ (λ p. σ (Note f p)) b (λ p. T .note f p k) in
       let shared = put2 (_≤ b) σ Shared to f _ new (T .shared) in
       search
 
@@ -269,7 +269,7 @@ module _ (σ : Store) (F : Formed σ) where
   learn-formed h p e =
       let k = server-small σ L h p e in
       let x = T .stable h p (k .0) (k .1) in
-      let y : lowestShared σ h ≤ b = lowest-within 4 _ (λ f. σ (Shared h f)) b (λ f. T .shared h f (k .0)) in
+      let y : lowestShared σ h ≤ b = lowest-within hallsMax _ (λ f. σ (Shared h f)) b (λ f. T .shared h f (k .0)) in
       let stable = put2 (_≤ b) σ Stable h p (stableAfter σ h p) (omega arith) (T .stable) in
       search
 

@@ -21,6 +21,7 @@ pub mod SnapshotRead
 pub mod LaterView
 pub mod ReadAnswer
 pub mod OwnWrites
+pub mod ReadYourWrites
 pub mod Calls
 pub mod Round
 pub mod RoundLists

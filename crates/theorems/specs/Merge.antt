@@ -2,18 +2,17 @@
 use Prim.Native.Nat.{ℕ, zero, suc, _<_}
 use mathlib.Core.Bool.{Bool, true, false, cond, _&&_, _||_}
 use mathlib.Core.Path.{_≡_, refl, ap, sym, _∙_}
-use mathlib.Core.Logic.{⊎-elim, _↔_}
+use mathlib.Core.Logic.{_⊎_, inl, inr, ⊎-elim, _↔_}
 use mathlib.Core.List.{List, [], _∷_, _++_, List·Memᴰ, List·Memᴰ·head, List·Memᴰ·tail, List·Memᴰ·not-nil, List·Memᴰ·cases-cons, List·Memᴰ·append-cases, Memᴰ·append-left, Memᴰ·append-right}
 use native.Mathlib.Omega.{arith}
 use Rattle.book.specs.declared.Stamp.{Stamp}
 use Rattle.book.specs.declared.View.{View}
 use Rattle.book.specs.declared.View.the-variants.{Nothing, Seen}
 use Rattle.book.specs.Sizes.{placesMax}
-use Rattle.book.specs.Cells.{Store, From, CommitTime, Value}
-use Rattle.book.specs.Answers.{stamp}
+use Rattle.book.specs.Cells.{Store, Value}
 use Rattle.book.specs.Cases.{by-test, by-eq}
 use Rattle.book.specs.Servers.{numberOf}
-use Rattle.book.specs.Views.{later, merge, mergeAll, version, wroteBy, decided, decidedView}
+use Rattle.book.specs.Views.{later, merge, mergeAll, stampOf, version, wroteBy, decided, decidedView}
 use Rattle.theorems.specs.Stamps.{later-order, later-self, neither-later, one-later}
 
 -- "nothing merged with a view is that view", on either side
@@ -65,10 +64,15 @@ merge-again a b = sym (merge-assoc a a b) ∙ ap (λ (x : View). merge x b) (mer
 merge-swap : (a b c : View) → Agree a b → merge a (merge b c) ≡ merge b (merge a c)
 merge-swap a b c f = sym (merge-assoc a b c) ∙ (ap (λ (x : View). merge x c) (merge-comm a b f) ∙ merge-assoc b a c)
 
+-- a merge is one of the two
+merge-either : (P : View → Type 0) (a b : View) → P a → P b → P (merge a b)
+merge-either P Nothing b x y = y
+merge-either P (Seen v s) Nothing x y = x
+merge-either P (Seen v s) (Seen w t) x y = by-test (later t s) (λ c. rw c y) (λ c. rw c x)
+
 -- Views of one store. "equal stamps of a key carry equal values": stamps that are equal are of one transaction. Of every store, so of every reached one.
 pub equal-stamps : (σ : Store) (k t u : ℕ)
-    → stamp (σ (CommitTime t)) (σ (From t)) (numberOf t) ≡ stamp (σ (CommitTime u)) (σ (From u)) (numberOf u)
-    → (t ≡ u) × (σ (Value t k) ≡ σ (Value u k))
+    → stampOf σ t ≡ stampOf σ u → (t ≡ u) × (σ (Value t k) ≡ σ (Value u k))
 equal-stamps σ k t u e =
     let n : numberOf t ≡ numberOf u = ap (λ (s : Stamp). s .number .0) e in
     let q : t ≡ u = omega arith in
@@ -89,20 +93,19 @@ unfolding viewOf
 view-join σ k S [] ys = refl
 view-join σ k S (t ∷ xs) ys = rw (view-join σ k S xs ys) (sym (merge-assoc (wrote σ k S t) (viewOf σ k S xs) (viewOf σ k S ys)))
 
--- a view of the store is nothing, or some transaction's
-abbrev Of : Store → ℕ → View → Type 0
-Of σ k Nothing = Unit {0}
-Of σ k (Seen v s) = (t : ℕ) × (v ≡ σ (Value t k)) × (s ≡ stamp (σ (CommitTime t)) (σ (From t)) (numberOf t))
+-- a view of the store is nothing, or the version of a transaction that passes
+abbrev Of : Store → ℕ → (ℕ → Bool) → View → Type 0
+Of σ k ok a = (a ≡ Nothing) ⊎ ((t : ℕ) × (ok t ≡ true) × (a ≡ version σ k t))
 
-of-agree : (σ : Store) (k : ℕ) (a b : View) → Of σ k a → Of σ k b → Agree a b
-of-agree σ k Nothing b x y = tt
-of-agree σ k (Seen v s) Nothing x y = tt
-of-agree σ k (Seen v s) (Seen w t) (i, p, q) (j, p′, q′) = λ e. p ∙ (equal-stamps σ k i j (sym q ∙ (e ∙ q′)) .1 ∙ sym p′)
+of-test : (σ : Store) (k : ℕ) (ok : ℕ → Bool) (t : ℕ) → Of σ k ok (cond (ok t) (version σ k t) Nothing)
+of-test σ k ok t = by-test (ok t) (λ c. inr (t, c, rw c)) (λ c. inl (rw c))
 
-of-merge : (σ : Store) (k : ℕ) (a b : View) → Of σ k a → Of σ k b → Of σ k (merge a b)
-of-merge σ k Nothing b x y = y
-of-merge σ k (Seen v s) Nothing x y = x
-of-merge σ k (Seen v s) (Seen w t) x y = by-test (later t s) (λ c. rw c y) (λ c. rw c x)
+of-agree : (σ : Store) (k : ℕ) (ok : ℕ → Bool) (a b : View) → Of σ k ok a → Of σ k ok b → Agree a b
+of-agree σ k ok a b x y =
+    ⊎-elim
+    (λ p. rw p tt)
+    (λ (t, _, p). rw p (⊎-elim (λ q. rw q tt) (λ (u, _, q). rw q (λ e. equal-stamps σ k t u e .1)) y))
+    x
 
 -- the view of the set of the transactions that pass a test: decidedView and heldView are such views
 abbrev pub viewOfSet : Store → ℕ → ℕ → (ℕ → Bool) → View
@@ -137,13 +140,13 @@ listed-i (suc n) ok t l e =
     (λ q _. let m = listed-i n ok t (omega arith) e in by-test (ok n) (λ c. rw c (List·Memᴰ·tail m)) (λ c. rw c m))
 
 module _ (σ : Store) (k S : ℕ) where
-  of-wrote : (t : ℕ) → Of σ k (wrote σ k S t)
-  of-wrote t = by-test (wroteBy σ k S t) (λ c. rw c (t, refl, refl)) (λ c. rw c tt)
+  of-wrote : (t : ℕ) → Of σ k (wroteBy σ k S) (wrote σ k S t)
+  of-wrote = of-test σ k (wroteBy σ k S)
 
-  of-view : (xs : List ℕ) → Of σ k (viewOf σ k S xs)
+  of-view : (xs : List ℕ) → Of σ k (wroteBy σ k S) (viewOf σ k S xs)
   unfolding viewOf
-  of-view [] = tt
-  of-view (t ∷ xs) = of-merge σ k (wrote σ k S t) (viewOf σ k S xs) (of-wrote t) (of-view xs)
+  of-view [] = inl refl
+  of-view (t ∷ xs) = merge-either (Of σ k (wroteBy σ k S)) (wrote σ k S t) (viewOf σ k S xs) (of-wrote t) (of-view xs)
 
   -- what is in the list is in the view
   absorb : (t : ℕ) (xs : List ℕ) → List·Memᴰ t xs → merge (wrote σ k S t) (viewOf σ k S xs) ≡ viewOf σ k S xs
@@ -155,7 +158,7 @@ module _ (σ : Store) (k S : ℕ) where
       let c = viewOf σ k S xs in
       ⊎-elim
       (λ q. rw q (merge-again b c))
-      (λ n. merge-swap a b c (of-agree σ k a b (of-wrote t) (of-wrote u)) ∙ ap (merge b) (absorb t xs n))
+      (λ n. merge-swap a b c (of-agree σ k (wroteBy σ k S) a b (of-wrote t) (of-wrote u)) ∙ ap (merge b) (absorb t xs n))
       (List·Memᴰ·cases-cons m)
 
   within : (xs ys : List ℕ) → ((t : ℕ) → List·Memᴰ t xs → List·Memᴰ t ys) → merge (viewOf σ k S xs) (viewOf σ k S ys) ≡ viewOf σ k S ys
@@ -168,7 +171,7 @@ module _ (σ : Store) (k S : ℕ) where
   -- views of one store merge in either order
   pub view-comm : (xs ys : List ℕ) → merge (viewOf σ k S xs) (viewOf σ k S ys) ≡ merge (viewOf σ k S ys) (viewOf σ k S xs)
   view-comm xs ys =
-      merge-comm (viewOf σ k S xs) (viewOf σ k S ys) (of-agree σ k (viewOf σ k S xs) (viewOf σ k S ys) (of-view xs) (of-view ys))
+      merge-comm (viewOf σ k S xs) (viewOf σ k S ys) (of-agree σ k (wroteBy σ k S) (viewOf σ k S xs) (viewOf σ k S ys) (of-view xs) (of-view ys))
 
   -- Two lists with the same members give the same view, whatever their order, their grouping and their repeats.
   pub same-view : (xs ys : List ℕ) → ((t : ℕ) → List·Memᴰ t xs ↔ List·Memᴰ t ys) → viewOf σ k S xs ≡ viewOf σ k S ys
@@ -181,7 +184,7 @@ module _ (σ : Store) (k S : ℕ) where
       let a = wrote σ k S n in
       let b = viewOf σ k S (listing n ok) in
       by-test (ok n)
-      (λ c. rw (c, listing-view n ok) (merge-comm b a (of-agree σ k b a (of-view (listing n ok)) (of-wrote n))))
+      (λ c. rw (c, listing-view n ok) (merge-comm b a (of-agree σ k (wroteBy σ k S) b a (of-view (listing n ok)) (of-wrote n))))
       (λ c. rw c (merge-nothing _ ∙ listing-view n ok))
 
   -- the view of a set is that of any list with just its members
@@ -212,3 +215,28 @@ module _ (σ : Store) (k S : ℕ) where
             (λ c. Memᴰ·append-right xs (listed-i placesMax b t l (rw c at e))),
       ))
       ∙ (view-join σ k S xs ys ∙ rw (listing-view placesMax a, listing-view placesMax b))
+
+  of-all : (n : ℕ) (ok : ℕ → Bool) → Of σ k ok (mergeAll n ok (version σ k))
+  unfolding mergeAll
+  of-all zero ok = inl refl
+  of-all (suc n) ok = merge-either (Of σ k ok) (mergeAll n ok (version σ k)) _ (of-all n ok) (of-test σ k ok n)
+
+  -- the view of a set with a write of the key is the version of one of the set, and no stamp in the set is later
+  pub latest : (ok : ℕ → Bool) (t : ℕ) → t < placesMax → ok t ≡ true → wroteBy σ k S t ≡ true
+      → (u : ℕ) × ((ok u && wroteBy σ k S u) ≡ true) × (viewOfSet σ k S ok ≡ version σ k u) × (later (stampOf σ t) (stampOf σ u) ≡ false)
+  latest ok t l e w =
+      let x : merge (version σ k t) (viewOfSet σ k S ok) ≡ viewOfSet σ k S ok =
+      rw (listing-view placesMax ok) (rw w at (absorb t (listing placesMax ok) (listed-i placesMax ok t l e))) in
+      ⊎-elim
+      (λ n. let y : version σ k t ≡ Nothing = rw n at x in let z : _≡_ {A = ℕ} 0 1 = cc in absurd (omega arith))
+      (λ (u, c, q). (
+        u,
+        c,
+        q,
+        by-test (later (stampOf σ u) (stampOf σ t))
+            (λ d. one-later (stampOf σ u) (stampOf σ t) d)
+            (λ d. let y : version σ k t ≡ version σ k u = rw (q, d) at x in
+            let z : stampOf σ t ≡ stampOf σ u = cc in
+            rw (equal-stamps σ k t u z .0) (later-self (stampOf σ u))),
+      ))
+      (of-all placesMax (λ t. ok t && wroteBy σ k S t))

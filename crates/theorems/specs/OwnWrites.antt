@@ -6,10 +6,10 @@ use mathlib.Core.Logic.{_⊎_, inl, inr, ⊎-elim}
 use native.Mathlib.Nat.{le-trans, le-refl, mod-lt}
 use native.Mathlib.Omega.{arith}
 use lib.Dec.{eqb, leb}
-use borrow.Author.Tests.{eq-eqb, ne-eqb, leb-true}
+use borrow.Author.Tests.{eqb-true, eq-eqb, ne-eqb, leb-true}
 use Rattle.book.specs.Sizes.{partitionsMax, keys}
-use Rattle.book.specs.Cells.{Store, same, _⟨_≔_⟩, Transactions, Status, idle, running, committing, Snapshot, LastCommit, WriteSet, CacheTime, By, CommitTime, KeySet, State, asked, prepared, waiting, installed, Proposed}
-use Rattle.book.specs.Cases.{by-test, by-eq, by-cell, unwritten, eqb-refl, at-same}
+use Rattle.book.specs.Cells.{Store, same, _⟨_≔_⟩, Transactions, Status, idle, running, committing, Snapshot, LastCommit, WriteSet, CacheValue, CacheTime, By, CommitTime, KeySet, Value, State, asked, prepared, waiting, installed, Proposed}
+use Rattle.book.specs.Cases.{by-test, by-eq, by-cell, and-true, unwritten, eqb-refl, at-same}
 use Rattle.book.specs.Folds.{largest-ge}
 use Rattle.book.specs.Sets.{member, include-lt}
 use Rattle.book.specs.Servers.{partitionOf}
@@ -24,6 +24,16 @@ use Rattle.theorems.specs.Install.{has-asked}
 use Rattle.theorems.specs.Transactions.{touches-i}
 use Rattle.theorems.specs.Begun.{some-bit}
 use Rattle.theorems.specs.Reach.{reached-inv}
+
+-- what session s has cached of key k is what its transaction t wrote
+abbrev pub CachedFrom : Store → ℕ → ℕ → ℕ → Type 0
+CachedFrom σ s k t = record {
+  there : t < σ Transactions;
+  by : σ (By t) ≡ s;
+  wrote : member (σ (KeySet t)) k ≡ true;
+  time : σ (CommitTime t) ≡ σ (CacheTime s k);
+  value : σ (Value t k) ≡ σ (CacheValue s k);
+}
 
 -- a session and its transactions
 abbrev pub Own : Store → Type 0
@@ -40,6 +50,10 @@ Own σ = record {
   ahead : (t p : ℕ) → σ (State t p) ≡ prepared → σ (CommitTime t) ≡ 0 → σ (LastCommit (σ (By t))) < σ (Proposed t p);
   -- a commit time is at most its session's last
   last : (t : ℕ) → σ (CommitTime t) ≤ σ (LastCommit (σ (By t)));
+  -- no two decided transactions of a session have one commit time
+  apart : (t u : ℕ) → σ (By t) ≡ σ (By u) → 0 < σ (CommitTime t) → σ (CommitTime t) ≡ σ (CommitTime u) → t ≡ u;
+  -- what is cached is what one of the session's transactions wrote
+  cached : (s k : ℕ) → 0 < σ (CacheTime s k) → (t : ℕ) × CachedFrom σ s k t;
   -- what was written is at or below the session's snapshot, or its key is cached at that time or later
   kept : (t k : ℕ) → member (σ (KeySet t)) k ≡ true
       → (σ (CommitTime t) ≤ σ (Snapshot (σ (By t)))) ⊎ (σ (CommitTime t) ≤ σ (CacheTime (σ (By t)) k));
@@ -58,6 +72,11 @@ module _ (σ : Store) (I : Inv σ) (O : Own σ) where
     one = O .one;
     ahead = O .ahead;
     last = O .last;
+    apart = O .apart;
+    cached = λ s′ k i.
+        by-test (eqb s s′ && leb (σ (CacheTime s′ k)) (snapshot σ s))
+        (λ c. absurd (let z : 0 < 0 = rw c at i in omega arith))
+        (λ c. rw c (O .cached s′ k (rw c at i)));
     kept = λ t k m.
         by-eq s (σ (By t))
         (λ q c. ⊎-elim
@@ -82,6 +101,8 @@ module _ (σ : Store) (I : Inv σ) (O : Own σ) where
     one = O .one;
     ahead = O .ahead;
     last = O .last;
+    apart = O .apart;
+    cached = O .cached;
     kept = O .kept;
   }
 
@@ -95,6 +116,8 @@ module _ (σ : Store) (I : Inv σ) (O : Own σ) where
     one = O .one;
     ahead = O .ahead;
     last = O .last;
+    apart = O .apart;
+    cached = O .cached;
     kept = O .kept;
   }
 
@@ -113,6 +136,8 @@ module _ (σ : Store) (I : Inv σ) (O : Own σ) where
         (λ q c. rw (c, ← q .i) (omega arith))
         (λ c. rw c (O .ahead t′ p′ (rw c at e) u));
     last = O .last;
+    apart = O .apart;
+    cached = O .cached;
     kept = O .kept;
   }
 
@@ -124,6 +149,8 @@ module _ (σ : Store) (I : Inv σ) (O : Own σ) where
     one = O .one;
     ahead = λ t′ p′ e. O .ahead t′ p′ (unwritten (same (State t p) (State t′ p′)) waiting _ prepared (λ x. omega arith) e .1);
     last = O .last;
+    apart = O .apart;
+    cached = O .cached;
     kept = O .kept;
   }
 
@@ -135,6 +162,8 @@ module _ (σ : Store) (I : Inv σ) (O : Own σ) where
     one = O .one;
     ahead = λ t p′ e. O .ahead t p′ (unwritten (eqb p p′ && installs σ h p t) installed _ prepared (λ x. omega arith) e .1);
     last = O .last;
+    apart = O .apart;
+    cached = O .cached;
     kept = O .kept;
   }
 
@@ -177,6 +206,16 @@ module _ (σ : Store) (I : Inv σ) (O : Own σ) where
       last = λ t. by-eq (σ Transactions) t
           (λ q c. let z = I .states .undecided t (omega arith) in omega arith)
           (λ q c. rw c (O .last t));
+      apart = λ t u e i z. by-eq (σ Transactions) t
+          (λ q c. let y = I .states .undecided t (omega arith) in absurd (omega arith))
+          (λ q c. by-eq (σ Transactions) u
+          (λ q′ c′. let y = I .states .undecided u (omega arith) in absurd (omega arith))
+          (λ q′ c′. O .apart t u (rw (c, c′) at e) i z));
+      cached = λ s′ k i.
+          let w = O .cached s′ k i in
+          let l = w .1 .there in
+          let c = ne-eqb (σ Transactions) (w .0) (λ q. omega arith) in
+          (w .0, record { there = omega arith; by = rw c (w .1 .by); wrote = rw c (w .1 .wrote); time = w .1 .time; value = rw c (w .1 .value) });
       kept = λ t k m. by-eq (σ Transactions) t
           (λ q c. let z = I .states .undecided t (omega arith) in inl (omega arith))
           (λ q c. rw c (O .kept t k (rw c at m)));
@@ -202,11 +241,17 @@ module _ (σ : Store) (I : Inv σ) (O : Own σ) where
         (λ c. let z′ : σ (CommitTime u) ≡ 0 = rw c at z in
         (z′, λ q. let e = O .one t u there b q un z′ in false≢true (sym c ∙ rw e (at-same (CommitTime u)))))
 
-    -- of this session, none is above it
-    most : (u : ℕ) → σ (By t) ≡ σ (By u) → decide σ t (CommitTime u) ≤ decision σ t
-    most u q =
+    -- of this session, all that was decided is below it
+    before : (u : ℕ) → σ (By t) ≡ σ (By u) → σ (CommitTime u) < decision σ t
+    before u q =
         let d = decision-above in
         let l : σ (CommitTime u) ≤ σ (LastCommit (σ (By t))) = rw q (O .last u) in
+        omega arith
+
+    -- so none is above it
+    most : (u : ℕ) → σ (By t) ≡ σ (By u) → decide σ t (CommitTime u) ≤ decision σ t
+    most u q =
+        let l = before u q in
         by-test (same (CommitTime t) (CommitTime u)) (λ c. rw c (le-refl _)) (λ c. rw c (omega arith))
 
     other : (u : ℕ) → (σ (By t) ≡ σ (By u) → ⊥) → decide σ t (CommitTime u) ≡ σ (CommitTime u)
@@ -230,6 +275,31 @@ module _ (σ : Store) (I : Inv σ) (O : Own σ) where
       last = λ u. by-eq (σ (By t)) (σ (By u))
           (λ q c. rw c (most u q))
           (λ q c. rw (other u q, c) (O .last u));
+      apart = λ u v e i z.
+          by-cell (CommitTime t) (CommitTime u)
+          (λ q c. by-cell (CommitTime t) (CommitTime v)
+          (λ q′ c′. sym (q .i) ∙ q′ .i)
+          (λ c′. let l = before v (rw (q .i) e) in let y = rw (c, c′) at z in absurd (omega arith)))
+          (λ c. by-cell (CommitTime t) (CommitTime v)
+          (λ q′ c′. let l = before u (rw (q′ .i) (sym e)) in let y = rw (c, c′) at z in absurd (omega arith))
+          (λ c′. O .apart u v e (rw c at i) (rw (c, c′) at z)));
+      cached = λ s k i.
+          by-test (eqb (σ (By t)) s && member (σ (KeySet t)) k)
+          (λ c. (
+            t,
+            record {
+              there = there;
+              by = eqb-true (σ (By t)) s (and-true (eqb (σ (By t)) s) _ c .0);
+              wrote = and-true (eqb (σ (By t)) s) _ c .1;
+              time = rw (c, at-same (CommitTime t));
+              value = rw c;
+            },
+          ))
+          (λ c.
+          let w = O .cached s k (rw c at i) in
+          by-cell (CommitTime t) (CommitTime (w .0))
+          (λ q d. let l = rw c at i in let z : σ (CommitTime (w .0)) ≡ 0 = rw (← q .i) un in absurd (omega arith))
+          (λ d. (w .0, rw (c, d) (w .1))));
       kept = λ u k m. by-eq (σ (By t)) (σ (By u))
           (λ q c. by-test (member (σ (KeySet t)) k)
           (λ e. inr (rw (c, e) (most u q)))
@@ -265,11 +335,13 @@ reached-own =
       one = λ t u a b e x y. absurd (omega arith);
       ahead = λ t p e u. absurd (omega arith);
       last = λ t. omega arith;
+      apart = λ t u e i z. absurd (omega arith);
+      cached = λ s k i. absurd (omega arith);
       kept = λ t k m. inl (omega arith);
     })
     (λ σ r O x. step-own σ (reached-inv r) O x)
 
--- A running session sees what it wrote: each of its transactions is decided, and what it wrote to a key is at or below the session's snapshot, or the
+-- Each transaction of a running session is decided, and what it wrote to a key is at or below the session's snapshot, or the
 -- key is cached at that time or later.
 pub own-writes : {σ : Store} → Reached σ → (s t : ℕ) → σ (Status s) ≡ running → t < σ Transactions → σ (By t) ≡ s
     → (0 < σ (CommitTime t))

@@ -97,7 +97,7 @@ limit-most true = omega arith
 limit-most false = omega arith
 
 module _ (σ : Store) (r : Reached σ) where
-  at-most : (t p : ℕ) → t < 64 → p < 4 → σ (State t p) ≤ 4
+  at-most : (t p : ℕ) → t < placesMax → p < partitionsMax → σ (State t p) ≤ 4
   at-most t p i j = le-trans (formed σ (reached-well-formed r) .state t p i j) (limit-most (ltb t (σ Transactions)))
 
   -- how many pairs of transaction t have a state

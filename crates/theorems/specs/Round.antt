@@ -11,14 +11,14 @@ use Rattle.book.specs.Sizes.{hallsMax, partitionsMax, placesMax, slots}
 use Rattle.book.specs.Cells.{Store, same, Halls, Stable, Entry, State, prepared, Waiting, Note, Shared}
 use Rattle.book.specs.Cases.{by-test, by-eq, by-cell, and-true, at-same, eqb-refl}
 use Rattle.book.specs.Folds.{any, lowest, any-true, any-i, lowest-le, lowest-ge}
-use Rattle.book.specs.Servers.{holds}
+use Rattle.book.specs.Servers.{holds, holds-hall}
 use Rattle.book.specs.ReplicationSteps.{preparedAt, hasPrepared, present, versionClock, installs, sendsTo, outgoing, nextSlot, slotOf, install, deliver}
 use Rattle.book.specs.GossipSteps.{lowestEntry, report, lowestOf, share, stableAfter, learn}
 use Rattle.book.specs.Refusals.{unused}
 use Rattle.book.specs.Steps.{ruleOf, installRule, deliverRule, reportRule, shareRule, learnRule}
 use Rattle.book.specs.Reached.{Reached}
 use Rattle.theorems.specs.Inv.{Setup, clockAt}
-use Rattle.theorems.specs.Gossip.{holds-hall, hall-fits, partition-fits}
+use Rattle.theorems.specs.Gossip.{hall-fits, partition-fits}
 use Rattle.theorems.specs.Install.{install-hybrid}
 use Rattle.theorems.specs.Sent.{sendsTo-is, sendsTo-i, outgoing-i}
 use Rattle.theorems.specs.Reach.{reached-inv}

@@ -11,11 +11,10 @@ use Rattle.book.specs.Cells.{Store, same, _⟨_≔_⟩, Partitions, Sessions, T
 use Rattle.book.specs.Cases.{by-test, eqb-refl, unwritten}
 use Rattle.book.specs.Folds.{any-i}
 use Rattle.book.specs.Sets.{member}
-use Rattle.book.specs.Servers.{partitionOf}
+use Rattle.book.specs.Servers.{holds-hall, partitionOf}
 use Rattle.book.specs.SessionSteps.{touches, ask}
 use Rattle.book.specs.CommitSteps.{prepare, decide, commit}
 use Rattle.theorems.specs.Inv.{Holding, Writes, Inv}
-use Rattle.theorems.specs.Gossip.{holds-hall}
 use Rattle.theorems.specs.Clocks.{state-stays, prepare-clocks, prepare-states, commit-clocks, commit-states, decide-grows, decide-clocks, decide-states, ask-other, ask-old, ask-clocks, ask-states}
 
 -- a set that has key k has one of k's partition
