@@ -498,7 +498,7 @@ static void sessions_of(u64 hall, u64 partition, char *line, size_t size) {
     line[0] = 0;
     for (u64 s = 0; s < session_count; s++)
         if (sessions[s].hall == hall && sessions[s].partition == partition)
-            put(line, size, "%s" N, line[0] == 0 ? "session " : ", ", s);
+            put(line, size, "%s" N, line[0] == 0 ? "sessions: " : ", ", s);
 }
 
 enum { REFUSED = 0, LATE = 100, STABLE }; /* marks that are no code */
