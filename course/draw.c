@@ -1,6 +1,6 @@
-/* Draws a run as one SVG: draw SCRIPT PRINTOUT. Steps go down, one to a row; halls and servers are lanes. The printout decides what
- * happened; of the store only so much is followed as says where a step stands, which message a delivery takes, and which reads a
- * session answers itself. */
+/* Draws a run as one SVG: draw SCRIPT PRINTOUT. Steps go down, one to a row; halls and servers are lanes. The printout decides
+ * what happened; of the store only so much is followed as says where a step stands, which message a delivery takes, and which
+ * reads a session answers itself. */
 #include <inttypes.h>
 #include <stdarg.h>
 #include <stdbool.h>
@@ -576,6 +576,18 @@ static const char *colour_of(u64 code) {
     }
 }
 
+static const char black[] = "#222", red[] = "#c01c28";
+
+/* Kinds: t title, w words, l label, n number. */
+static void text(char kind, int x, int y, const char *colour, const char *format, ...) {
+    printf("<text class=\"%c\" x=\"%d\" y=\"%d\" fill=\"%s\">", kind, x, y, colour);
+    va_list arguments;
+    va_start(arguments, format);
+    vprintf(format, arguments);
+    va_end(arguments);
+    puts("</text>");
+}
+
 static void mark(u64 code, int x, int y) {
     const char *colour = colour_of(code);
     switch (code) {
@@ -603,7 +615,7 @@ static void mark(u64 code, int x, int y) {
         printf("<path d=\"M%d %dh12v10h-12z\" fill=\"%s\"/>\n", x - 6, y - 5, colour);
         break;
     case REFUSED:
-        printf("<path d=\"M%d %dl10 10m0 -10l-10 10\" stroke=\"#c01c28\" stroke-width=\"3\"/>\n", x - 5, y - 5);
+        printf("<path d=\"M%d %dl10 10m0 -10l-10 10\" stroke=\"%s\" stroke-width=\"3\"/>\n", x - 5, y - 5, red);
         break;
     default: /* the end of an arrow */
         printf("<circle cx=\"%d\" cy=\"%d\" r=\"3\" fill=\"%s\"/>\n", x, y, colour);
@@ -618,15 +630,16 @@ static void draw_halls(void) {
         int x = lane_left[hall_lane[h]];
         int end = (h + 1 < halls ? lane_left[hall_lane[h + 1]] : lane_left[lane_count]) - GAP;
         printf("<rect x=\"%d\" y=\"40\" width=\"%d\" height=\"%d\" rx=\"6\" fill=\"#f4f4f1\"/>\n", x, end - x, rows_end - 40);
-        printf("<text x=\"%d\" y=\"58\" class=\"t\" fill=\"#222\">hall " N "</text>\n", x + GAP, h);
-        printf("<text x=\"%d\" y=\"76\" class=\"l\" fill=\"#222\">its notes</text>\n", x + GAP);
+        text('t', x + GAP, 58, black, "hall " N, h);
+        text('l', x + GAP, 76, black, "its notes");
         for (u64 p = 0; p < partitions; p++) {
             if (!holds(h, p))
                 continue;
+            x = lane_left[server_lane[h][p]] + GAP;
+            text('l', x, 76, black, "server " SERVER, h, p);
             sessions_of(h, p, line, sizeof line);
-            printf("<text x=\"%d\" y=\"76\" class=\"l\" fill=\"#222\">server " SERVER "</text>\n", lane_left[server_lane[h][p]] + GAP, h, p);
             if (line[0] != 0)
-                printf("<text x=\"%d\" y=\"92\" class=\"l\" fill=\"#1a5fb4\">%s</text>\n", lane_left[server_lane[h][p]] + GAP, line);
+                text('l', x, 92, colour_of(START), "%s", line);
         }
     }
 }
@@ -714,19 +727,18 @@ static void draw_rows(void) {
         const struct Row *row = &rows[i];
         int y = y_of(i);
         bool taken = row->refusal == 0;
-        const char *colour = taken ? colour_of(row->code) : "#c01c28";
-        printf("<text x=\"%d\" y=\"%d\" class=\"n\" fill=\"#777\">%d</text>\n", words_at - 8, y + 4, i + 1);
-        printf("<text x=\"%d\" y=\"%d\" class=\"w\" fill=\"%s\">%s</text>\n", words_at, y + 4, taken ? "#222" : colour, row->words);
+        text('n', words_at - 8, y + 4, "#777", "%d", i + 1);
+        text('w', words_at, y + 4, taken ? black : red, "%s", row->words);
         if (row->lane == NONE)
             continue;
         int x = lane_x[row->lane];
         printf("<rect x=\"%d\" y=\"%d\" width=\"%d\" height=\"14\" fill=\"#f4f4f1\"/>\n", x + LABEL_AT - 1, y - 7,
                label_width(strlen(row->label)) + 2);
         mark(taken ? row->code : REFUSED, x, y);
-        printf("<text x=\"%d\" y=\"%d\" class=\"l\" fill=\"%s\">%s</text>\n", x + LABEL_AT, y + 4, colour, row->label);
+        text('l', x + LABEL_AT, y + 4, taken ? colour_of(row->code) : red, "%s", row->label);
     }
     if (ending[0] != 0)
-        printf("<text x=\"%d\" y=\"%d\" class=\"t\" fill=\"#c01c28\">%s</text>\n", words_at, HEAD + ROW * row_count + ROW, ending);
+        text('t', words_at, HEAD + ROW * row_count + ROW, red, "%s", ending);
 }
 
 static void draw_legend(void) {
@@ -749,26 +761,27 @@ static void draw_legend(void) {
         default:
             mark(legend[i].mark, x, y);
         }
-        printf("<text x=\"%d\" y=\"%d\" class=\"w\" fill=\"#222\">%s</text>\n", x + 24, y + 4, legend[i].words);
+        text('w', x + 24, y + 4, black, "%s", legend[i].words);
     }
 }
 
 static void draw_arrow_head(const char *name, const char *colour) {
     printf("<marker id=\"%s\" viewBox=\"0 0 10 10\" refX=\"10\" refY=\"5\" markerUnits=\"userSpaceOnUse\" markerWidth=\"10\" "
-           "markerHeight=\"10\" orient=\"auto\"><path d=\"M0 1l10 4l-10 4z\" fill=\"%s\" stroke=\"none\"/></marker>\n", name, colour);
+           "markerHeight=\"10\" orient=\"auto\"><path d=\"M0 1l10 4l-10 4z\" fill=\"%s\"/></marker>\n",
+           name, colour);
 }
 
 static void draw(void) {
     measure();
-    printf("<svg xmlns=\"http://www.w3.org/2000/svg\" width=\"%d\" height=\"%d\" viewBox=\"0 0 %d %d\" fill=\"none\">\n", width, height,
-           width, height);
-    printf("<style>text{font-family:system-ui,'Segoe UI',Roboto,Helvetica,Arial,sans-serif}.t{font-size:14px;font-weight:600}"
-           ".w{font-size:12px}.l{font-size:11px}.n{font-size:11px;text-anchor:end}</style>\n");
-    draw_arrow_head("copy", "#6a3d9a");
-    draw_arrow_head("time", "#1b7a45");
+    printf("<svg xmlns=\"http://www.w3.org/2000/svg\" width=\"%d\" height=\"%d\" viewBox=\"0 0 %d %d\" fill=\"none\">\n",
+           width, height, width, height);
+    puts("<style>text{font-family:system-ui,'Segoe UI',Roboto,Helvetica,Arial,sans-serif}.t{font-size:14px;font-weight:600}"
+         ".w{font-size:12px}.l{font-size:11px}.n{font-size:11px;text-anchor:end}</style>");
+    draw_arrow_head("copy", colour_of(DELIVER));
+    draw_arrow_head("time", colour_of(LEARN));
     printf("<rect width=\"%d\" height=\"%d\" fill=\"#fff\"/>\n", width, height);
-    printf("<text x=\"%d\" y=\"26\" class=\"t\" fill=\"#222\">halls: " N ", servers: " N ", sessions: " N ", steps: %d</text>\n", LEFT, halls, servers,
-           halls == 0 ? 0 : session_count, row_count);
+    text('t', LEFT, 26, black, "halls: " N ", servers: " N ", sessions: " N ", steps: %d", halls, servers,
+         halls == 0 ? 0 : session_count, row_count);
     draw_halls();
     draw_stable_times();
     draw_lines();

@@ -1,5 +1,6 @@
 #!/bin/sh
-# After a change to a lesson's script: its printout from the second program, its picture, and both texts for the program `runs`.
+# After a change to a lesson's script, or for a new one: its printout from the second program, its picture, both texts for the
+# program `runs`, and how many scripts that has now.
 LC_ALL=C
 export LC_ALL
 CDPATH='' cd -- "$(dirname -- "$0")/../second" || exit 1
@@ -16,3 +17,5 @@ for script in [0-9]*/script; do
 done
 cd "$data" || exit 1
 ls | sed -n 's/\.script$//p' >list
+count=$(grep -c '' list)
+echo "$count of $count scripts agree" >../stdout
