@@ -1,0 +1,802 @@
+/* Draws a run as one SVG: draw SCRIPT PRINTOUT. Steps go down, one to a row; halls and servers are lanes. The printout decides
+ * what happened; of the store only so much is followed as says where a step stands, which message a delivery takes, and which
+ * reads a session answers itself. */
+#include <inttypes.h>
+#include <stdarg.h>
+#include <stdbool.h>
+#include <stdint.h>
+#include <stdio.h>
+#include <stdlib.h>
+#include <string.h>
+
+typedef uint64_t u64;
+
+enum { HALLS = 4, PARTITIONS = 4, SESSIONS = 16, KEYS = 32, REQUESTS = 64, STEPS = 8000 };
+enum { LANES = HALLS + HALLS * PARTITIONS, MESSAGES = STEPS * (HALLS - 1), NONE = -1 };
+enum { SCRIPT_LIMIT = 65536, PRINTOUT_LIMIT = 1 << 20 };
+enum Code { TICK = 1, START, READ, WRITE, END, PREPARE, DECIDE, COMMIT, INSTALL, DELIVER, REPORT, SHARE, LEARN };
+
+/* ---- The two texts ---- */
+
+struct Text {
+    const unsigned char *at, *end;
+};
+
+static struct Text read_file(const char *path, size_t limit) {
+    FILE *file = fopen(path, "rb");
+    unsigned char *bytes = malloc(limit);
+    if (file == NULL || bytes == NULL) {
+        fprintf(stderr, "draw: cannot read %s\n", path);
+        exit(1);
+    }
+    size_t length = fread(bytes, 1, limit, file);
+    fclose(file);
+    return (struct Text){bytes, bytes + length};
+}
+
+/* A number and the space or line feed after it. Where there is none, the text stays where it is. */
+static bool take(struct Text *text, u64 *number) {
+    const unsigned char *at = text->at;
+    *number = 0;
+    for (; at < text->end && *at >= '0' && *at <= '9'; at++) {
+        u64 digit = (u64)(*at - '0');
+        if (*number > (UINT64_MAX - digit) / 10)
+            return false;
+        *number = *number * 10 + digit;
+    }
+    if (at == text->at || at == text->end || (*at != ' ' && *at != '\n'))
+        return false;
+    text->at = at + 1;
+    return true;
+}
+
+static bool take_four(struct Text *text, u64 n[4]) {
+    struct Text ahead = *text;
+    for (int i = 0; i < 4; i++)
+        if (!take(&ahead, &n[i]))
+            return false;
+    *text = ahead;
+    return true;
+}
+
+/* ---- What is followed ---- */
+
+struct Session {
+    u64 hall, partition;
+    u64 snapshot;
+    uint32_t written, read;  /* keys of the write set and the read set */
+    u64 cached[KEYS];        /* commit times of the cache, 0 where there is none */
+};
+
+struct Transaction {
+    int session; /* NONE where there is no such number yet */
+    uint32_t keys;
+};
+
+/* From the row of an install to the row of its delivery, or to NONE. */
+struct Message {
+    int from, to, sent, taken, next;
+    bool carries;
+};
+
+struct Row {
+    u64 code, refusal;
+    int lane, asker;     /* where it happens, and the lane it is asked from; NONE where it has no place */
+    bool sets_stable;
+    u64 stable;
+    char words[192], label[64];
+};
+
+static u64 halls, partitions, servers, session_count, step_count, masks[HALLS];
+static struct Session sessions[SESSIONS];
+static struct Transaction transactions[REQUESTS + 1];
+static struct Message messages[MESSAGES];
+static int message_count, oldest[PARTITIONS][HALLS][HALLS], newest[PARTITIONS][HALLS][HALLS];
+static struct Row rows[STEPS];
+static int row_count;
+static char ending[128]; /* why the picture ends before the script does; else empty */
+
+static int lane_count, hall_lane[HALLS], server_lane[HALLS][PARTITIONS];
+
+static bool holds(u64 hall, u64 partition) {
+    return hall < halls && partition < partitions && (masks[hall] >> partition & 1) == 1;
+}
+
+static int lane_of_hall(u64 hall) { return hall < halls ? hall_lane[hall] : NONE; }
+
+static int lane_of(u64 hall, u64 partition) { return holds(hall, partition) ? server_lane[hall][partition] : NONE; }
+
+static int home_of(u64 session) {
+    return session < session_count ? lane_of(sessions[session].hall, sessions[session].partition) : NONE;
+}
+
+static struct Transaction *transaction(u64 number) {
+    bool there = number >= 1 && number <= REQUESTS && transactions[number].session != NONE;
+    return there ? &transactions[number] : NULL;
+}
+
+static int coordinator_of(u64 number) {
+    struct Transaction *t = transaction(number);
+    return t == NULL ? NONE : home_of((u64)t->session);
+}
+
+/* "the coordinator's hall if it holds it, else the first holder found counting up from it and past the last back to 0" */
+static int writer_of(u64 number, u64 partition) {
+    struct Transaction *t = transaction(number);
+    if (t == NULL || partition >= partitions)
+        return NONE;
+    u64 hall = sessions[t->session].hall;
+    while (!holds(hall, partition))
+        hall = (hall + 1) % halls;
+    return lane_of(hall, partition);
+}
+
+static void put(char *line, size_t size, const char *format, ...) {
+    size_t used = strlen(line);
+    va_list arguments;
+    va_start(arguments, format);
+    vsnprintf(line + used, size - used, format, arguments);
+    va_end(arguments);
+}
+#define WORDS(...) put(row->words, sizeof row->words, __VA_ARGS__)
+#define LABEL(...) put(row->label, sizeof row->label, __VA_ARGS__)
+#define SERVER "(%" PRIu64 ", %" PRIu64 ")"
+#define N "%" PRIu64
+
+/* "One message [...] goes to each other holder, even if empty." */
+static void send(u64 hall, u64 partition, int row, bool carries) {
+    for (u64 to = 0; to < halls; to++) {
+        if (to == hall || !holds(to, partition))
+            continue;
+        int m = message_count++;
+        messages[m] = (struct Message){lane_of(hall, partition), lane_of(to, partition), row, NONE, NONE, carries};
+        int *first = &oldest[partition][hall][to], *last = &newest[partition][hall][to];
+        if (*first == NONE)
+            *first = m;
+        else
+            messages[*last].next = m;
+        *last = m;
+    }
+}
+
+static void deliver(u64 partition, u64 from, u64 to, int row) {
+    int *first = &oldest[partition][from][to];
+    if (*first == NONE)
+        return;
+    messages[*first].taken = row;
+    *first = messages[*first].next;
+}
+
+/* What is asked, in words, and its lanes. */
+static void ask(struct Row *row, const u64 n[4]) {
+    u64 a = n[1], b = n[2], c = n[3];
+    switch (n[0]) {
+    case TICK:
+        WORDS("tick at " SERVER ": " N, a, b, c);
+        row->lane = lane_of(a, b);
+        break;
+    case START:
+        WORDS("session " N " starts", a);
+        row->lane = home_of(a);
+        break;
+    case READ:
+        WORDS("session " N " reads key " N " in hall " N, a, b, c);
+        row->lane = lane_of(c, b % partitions);
+        row->asker = home_of(a);
+        break;
+    case WRITE:
+        WORDS("session " N " writes " N " to key " N, a, c, b);
+        row->lane = home_of(a);
+        break;
+    case END:
+        WORDS("session " N " ends", a);
+        row->lane = home_of(a);
+        break;
+    case PREPARE:
+    case COMMIT:
+        WORDS("%s transaction " N " in partition " N, n[0] == PREPARE ? "prepare" : "commit", a, b);
+        row->lane = writer_of(a, b);
+        row->asker = coordinator_of(a);
+        break;
+    case DECIDE:
+        WORDS("decide transaction " N, a);
+        row->lane = coordinator_of(a);
+        break;
+    case INSTALL:
+        WORDS("install at " SERVER, a, b);
+        row->lane = lane_of(a, b);
+        break;
+    case DELIVER:
+        WORDS("deliver from " SERVER " to " SERVER, b, a, c, a);
+        row->lane = lane_of(c, a);
+        break;
+    case REPORT:
+        WORDS("report of " SERVER, a, b);
+        row->lane = holds(a, b) ? lane_of_hall(a) : NONE;
+        row->asker = lane_of(a, b);
+        break;
+    case SHARE:
+        WORDS("share from hall " N " to hall " N, a, b);
+        row->lane = lane_of_hall(b);
+        row->asker = lane_of_hall(a);
+        break;
+    case LEARN:
+        WORDS("learn at " SERVER, a, b);
+        row->lane = lane_of(a, b);
+        row->asker = lane_of_hall(a);
+        break;
+    default:
+        WORDS("step " N " " N " " N " " N, n[0], a, b, c);
+    }
+}
+
+static void start(struct Session *s, u64 snapshot) {
+    s->snapshot = snapshot;
+    s->written = s->read = 0;
+    for (int key = 0; key < KEYS; key++)
+        if (s->cached[key] <= snapshot)
+            s->cached[key] = 0;
+}
+
+/* "Looks in write set, read set, cache, then at that hall's server, at S." */
+static void read_key(struct Row *row, struct Session *s, u64 key, u64 found, u64 value) {
+    uint32_t bit = UINT32_C(1) << key;
+    bool own = ((s->written | s->read) & bit) != 0 || s->cached[key] != 0;
+    if (own) {
+        row->lane = row->asker;
+        row->asker = NONE;
+    }
+    if (found != 0) {
+        WORDS(": " N, value);
+        LABEL(N, value);
+        s->read |= bit;
+    } else {
+        WORDS(": nothing");
+        LABEL("none");
+    }
+    if (own) {
+        WORDS(", its own");
+        LABEL(" own");
+    } else {
+        WORDS(" at " N, s->snapshot);
+        LABEL(" at " N, s->snapshot);
+    }
+}
+
+static void end(struct Row *row, u64 session, u64 number, u64 written) {
+    if (number == 0) {
+        WORDS(", nothing written");
+        LABEL("end");
+        return;
+    }
+    WORDS(": transaction " N ", partitions: " N, number, written);
+    LABEL("T" N, number);
+    if (number <= REQUESTS)
+        transactions[number] = (struct Transaction){(int)session, sessions[session].written};
+}
+
+static void decide(u64 number, u64 time) {
+    struct Transaction *t = transaction(number);
+    if (t == NULL)
+        return;
+    struct Session *s = &sessions[t->session];
+    for (int key = 0; key < KEYS; key++)
+        if (t->keys >> key & 1)
+            s->cached[key] = time;
+    s->written = 0;
+}
+
+static void set_stable(struct Row *row, u64 time) {
+    row->sets_stable = true;
+    row->stable = time;
+}
+
+/* What was answered. The lane says that the numbers are there, even where the printout is not this script's. */
+static void answer(struct Row *row, const u64 n[4], u64 first, u64 second) {
+    u64 a = n[1], b = n[2], c = n[3];
+    int number = (int)(row - rows);
+    switch (n[0]) {
+    case TICK:
+        LABEL(N, c);
+        break;
+    case START:
+        WORDS(": snapshot " N ", lag " N, first, second);
+        LABEL("S " N, first);
+        start(&sessions[a], first);
+        set_stable(row, first);
+        break;
+    case READ:
+        read_key(row, &sessions[a], b, first, second);
+        break;
+    case WRITE:
+        LABEL("key " N ": " N, b, c);
+        sessions[a].written |= UINT32_C(1) << b;
+        break;
+    case END:
+        end(row, a, first, second);
+        break;
+    case PREPARE:
+        WORDS(": proposed " N, first);
+        LABEL("T" N " proposed " N, a, first);
+        break;
+    case DECIDE:
+        WORDS(": commit time " N, first);
+        LABEL("T" N " decided " N, a, first);
+        decide(a, first);
+        break;
+    case COMMIT:
+        WORDS(": hybrid clock " N, first);
+        LABEL("T" N " waiting", a);
+        break;
+    case INSTALL:
+        WORDS(": version clock " N ", installed: " N, first, second);
+        LABEL("version " N, first);
+        if (second != 0)
+            LABEL(", +" N, second);
+        send(a, b, number, second != 0);
+        break;
+    case DELIVER:
+        WORDS(": clock " N ", installed: " N, first, second);
+        LABEL("hall " N ": " N, b, first);
+        if (second != 0)
+            LABEL(", +" N, second);
+        deliver(a, b, c, number);
+        break;
+    case REPORT:
+        WORDS(": " N, first);
+        LABEL(SERVER ": " N, a, b, first);
+        break;
+    case SHARE:
+        WORDS(": " N, first);
+        LABEL("hall " N ": " N, a, first);
+        break;
+    case LEARN:
+        WORDS(": stable time " N, first);
+        LABEL("stable " N, first);
+        set_stable(row, first);
+        break;
+    }
+}
+
+/* Can the followed state take this step? A key or a sender is no lane, so they are looked at here. */
+static bool has_place(const struct Row *row, const u64 n[4]) {
+    if (row->lane == NONE)
+        return false;
+    switch (n[0]) {
+    case READ:
+        return row->asker != NONE && n[2] < KEYS;
+    case WRITE:
+        return n[2] < KEYS;
+    case DELIVER:
+        return holds(n[2], n[1]);
+    case SHARE:
+        return row->asker != NONE;
+    default:
+        return true;
+    }
+}
+
+static void follow(const u64 n[4], const u64 line[4]) {
+    struct Row *row = &rows[row_count++];
+    *row = (struct Row){.code = n[0], .refusal = line[1], .lane = NONE, .asker = NONE};
+    ask(row, n);
+    if (row->refusal != 0) {
+        WORDS(": turned away, " N, row->refusal);
+        LABEL("turned away, " N, row->refusal);
+        row->asker = NONE;
+    } else if (has_place(row, n)) {
+        answer(row, n, line[2], line[3]);
+    } else {
+        WORDS(": " N " " N, line[2], line[3]);
+        row->lane = row->asker = NONE;
+    }
+}
+
+/* ---- Setup and the run ---- */
+
+static void give_lanes(void) {
+    for (u64 h = 0; h < halls; h++) {
+        hall_lane[h] = lane_count++;
+        for (u64 p = 0; p < partitions; p++)
+            if (holds(h, p)) {
+                server_lane[h][p] = lane_count++;
+                servers++;
+            }
+    }
+}
+
+/* The sections before the step count; false where they are not such that a setup can be taken. */
+static bool take_setup(struct Text *script) {
+    u64 held = 0;
+    if (!take(script, &halls) || halls < 1 || halls > HALLS)
+        return false;
+    for (u64 h = 0; h < halls; h++) {
+        if (!take(script, &masks[h]) || masks[h] < 1 || masks[h] >= 1 << PARTITIONS)
+            return false;
+        held |= masks[h];
+    }
+    while (held >> partitions & 1)
+        partitions++;
+    if (held >> partitions != 0)
+        return false;
+    if (!take(script, &session_count) || session_count < 1 || session_count > SESSIONS)
+        return false;
+    for (u64 s = 0; s < session_count; s++)
+        if (!take(script, &sessions[s].hall) || !take(script, &sessions[s].partition) ||
+            !holds(sessions[s].hall, sessions[s].partition))
+            return false;
+    return true;
+}
+
+/* Why nothing more is drawn, after the lines that were used. */
+static void say_ending(struct Text printout, const char *where) {
+    static const char stop[] = "script ";
+    u64 n[4];
+    if ((size_t)(printout.end - printout.at) >= sizeof stop - 1 && memcmp(printout.at, stop, sizeof stop - 1) == 0) {
+        printout.at += sizeof stop - 1;
+        if (take(&printout, &n[0])) {
+            put(ending, sizeof ending, "The script stops %s: bad text at offset " N ".", where, n[0]);
+            return;
+        }
+    }
+    if (printout.at == printout.end)
+        put(ending, sizeof ending, "The printout ends %s.", where);
+    else if (take_four(&printout, n) && n[0] == 0 && n[1] != 0)
+        put(ending, sizeof ending, "The script stops %s: setup is turned away, " N ".", where, n[1]);
+    else
+        put(ending, sizeof ending, "The printout is not this script's %s.", where);
+}
+
+static void run(struct Text script, struct Text printout) {
+    u64 n[4], line[4];
+    struct Text next = printout;
+    for (int i = 1; i <= REQUESTS; i++)
+        transactions[i].session = NONE;
+    memset(oldest, NONE, sizeof oldest);
+    bool set = take_setup(&script);
+    if (!take_four(&next, line) || line[0] != 0 || line[1] != 0 || !set) {
+        halls = 0;
+        say_ending(printout, "before step 1");
+        return;
+    }
+    printout = next;
+    give_lanes();
+    if (!take(&script, &step_count))
+        step_count = STEPS + 1;
+    while ((u64)row_count < step_count && row_count < STEPS && take_four(&script, n) && take_four(&next, line) &&
+           line[0] == (u64)row_count + 1) {
+        follow(n, line);
+        printout = next;
+    }
+    if ((u64)row_count < step_count || printout.at != printout.end) {
+        char where[32];
+        snprintf(where, sizeof where, "after step %d", row_count);
+        say_ending(printout, where);
+    }
+}
+
+/* ---- The picture: sizes are whole pixels ---- */
+
+enum { ROW = 20, BAND = 36, LEFT = 16, NUMBER = 44, HEAD = 104, FOOT = 12, LEGEND_ROW = 22, LEGEND_COLUMN = 350, GAP = 6 };
+enum { LABEL_AT = 14 }; /* from a lane's line to its label */
+
+/* Most fonts are narrower; labels are 11 px, words 12. */
+static int label_width(size_t letters) { return (int)letters * 7; }
+static int words_width(size_t letters) { return (int)(letters * 37 / 5); }
+
+static int words_at = LEFT + NUMBER, lane_x[LANES], lane_left[LANES + 1];
+static int width, height, rows_end;
+
+static int y_of(int row) { return HEAD + ROW * row + ROW / 2; }
+
+static void at_least(int *size, int needed) {
+    if (*size < needed)
+        *size = needed;
+}
+
+static void sessions_of(u64 hall, u64 partition, char *line, size_t size) {
+    line[0] = 0;
+    for (u64 s = 0; s < session_count; s++)
+        if (sessions[s].hall == hall && sessions[s].partition == partition)
+            put(line, size, "%s" N, line[0] == 0 ? "sessions: " : ", ", s);
+}
+
+enum { REFUSED = 0, LATE = 100, STABLE }; /* marks that are no code */
+
+static const struct { u64 mark; const char *words; } legend[] = {
+    {TICK, "tick: the server's clock reading"},
+    {START, "start: S is the session's snapshot"},
+    {READ, "read: answer at the snapshot, or its own"},
+    {WRITE, "write: kept in the session until its end"},
+    {END, "end: T is the transaction's number"},
+    {PREPARE, "prepare: the time this server proposes"},
+    {DECIDE, "decide: the commit time"},
+    {COMMIT, "commit: waiting to be installed"},
+    {INSTALL, "install: version clock, + how many are new"},
+    {DELIVER, "deliver: sender and clock; thin when empty"},
+    {LATE, "a message that is not delivered here"},
+    {REPORT, "report, share, learn: the time passed on"},
+    {STABLE, "a server's stable time: wider is later"},
+    {REFUSED, "turned away, with its number"},
+};
+enum { LEGENDS = sizeof legend / sizeof legend[0] };
+
+static int legend_columns(void) { return (width - 2 * LEFT) / LEGEND_COLUMN; }
+
+static void measure(void) {
+    int widest[LANES] = {0}, words = words_width(24);
+    for (int i = 0; i < row_count; i++) {
+        at_least(&words, words_width(strlen(rows[i].words)));
+        if (rows[i].lane != NONE)
+            at_least(&widest[rows[i].lane], label_width(strlen(rows[i].label)));
+    }
+    int x = words_at + words + LEFT;
+    for (u64 h = 0; h < halls; h++) {
+        int lane = hall_lane[h];
+        at_least(&widest[lane], label_width(8));
+        lane_left[lane] = x;
+        lane_x[lane] = x + 14;
+        x = lane_x[lane] + LABEL_AT + widest[lane] + GAP;
+        for (u64 p = 0; p < partitions; p++) {
+            if (!holds(h, p))
+                continue;
+            char line[96];
+            sessions_of(h, p, line, sizeof line);
+            lane = server_lane[h][p];
+            at_least(&widest[lane], label_width(13) - BAND);
+            at_least(&widest[lane], label_width(strlen(line)) - BAND);
+            lane_left[lane] = x;
+            lane_x[lane] = x + BAND + GAP;
+            x = lane_x[lane] + LABEL_AT + widest[lane] + GAP;
+        }
+        x += GAP;
+    }
+    lane_left[lane_count] = x;
+    width = x + LEFT;
+    at_least(&width, 2 * LEFT + 2 * LEGEND_COLUMN);
+    at_least(&width, words_at + words_width(strlen(ending)) + LEFT);
+    rows_end = HEAD + ROW * row_count + (ending[0] != 0 ? 2 * ROW : ROW / 2);
+    int lines = (LEGENDS + legend_columns() - 1) / legend_columns();
+    height = rows_end + 2 * ROW + LEGEND_ROW * lines + FOOT;
+}
+
+/* Ticks are grey, sessions blue, edits brown, copies purple, stable times green. */
+static const char *colour_of(u64 code) {
+    switch (code) {
+    case TICK:
+        return "#666";
+    case START: case READ:
+        return "#1a5fb4";
+    case WRITE: case END: case PREPARE: case DECIDE: case COMMIT:
+        return "#9c4a00";
+    case INSTALL: case DELIVER:
+        return "#6a3d9a";
+    default:
+        return "#1b7a45";
+    }
+}
+
+static const char black[] = "#222", red[] = "#c01c28";
+
+/* Kinds: t title, w words, l label, n number. */
+static void text(char kind, int x, int y, const char *colour, const char *format, ...) {
+    printf("<text class=\"%c\" x=\"%d\" y=\"%d\" fill=\"%s\">", kind, x, y, colour);
+    va_list arguments;
+    va_start(arguments, format);
+    vprintf(format, arguments);
+    va_end(arguments);
+    puts("</text>");
+}
+
+static void mark(u64 code, int x, int y) {
+    const char *colour = colour_of(code);
+    switch (code) {
+    case TICK:
+        printf("<path d=\"M%d %dh12\" stroke=\"%s\" stroke-width=\"3\"/>\n", x - 6, y, colour);
+        break;
+    case START:
+        printf("<circle cx=\"%d\" cy=\"%d\" r=\"5\" fill=\"#fff\" stroke=\"%s\" stroke-width=\"2\"/>\n", x, y, colour);
+        break;
+    case READ:
+        printf("<circle cx=\"%d\" cy=\"%d\" r=\"5\" fill=\"%s\"/>\n", x, y, colour);
+        break;
+    case WRITE: case END:
+        printf("<path d=\"M%d %dh8v8h-8z\" fill=\"%s\" stroke=\"%s\" stroke-width=\"2\"/>\n", x - 4, y - 4,
+               code == END ? colour : "#fff", colour);
+        break;
+    case PREPARE: case DECIDE:
+        printf("<path d=\"M%d %dl6 6l-6 6l-6 -6z\" fill=\"%s\" stroke=\"%s\" stroke-width=\"2\"/>\n", x, y - 6,
+               code == DECIDE ? colour : "#fff", colour);
+        break;
+    case COMMIT:
+        printf("<path d=\"M%d %dl6 10h-12z\" fill=\"#fff\" stroke=\"%s\" stroke-width=\"2\"/>\n", x, y - 6, colour);
+        break;
+    case INSTALL:
+        printf("<path d=\"M%d %dh12v10h-12z\" fill=\"%s\"/>\n", x - 6, y - 5, colour);
+        break;
+    case REFUSED:
+        printf("<path d=\"M%d %dl10 10m0 -10l-10 10\" stroke=\"%s\" stroke-width=\"3\"/>\n", x - 5, y - 5, red);
+        break;
+    default: /* the end of an arrow */
+        printf("<circle cx=\"%d\" cy=\"%d\" r=\"3\" fill=\"%s\"/>\n", x, y, colour);
+    }
+}
+
+/* ---- The layers, from the back to the front ---- */
+
+static void draw_halls(void) {
+    char line[96];
+    for (u64 h = 0; h < halls; h++) {
+        int x = lane_left[hall_lane[h]];
+        int end = (h + 1 < halls ? lane_left[hall_lane[h + 1]] : lane_left[lane_count]) - GAP;
+        printf("<rect x=\"%d\" y=\"40\" width=\"%d\" height=\"%d\" rx=\"6\" fill=\"#f4f4f1\"/>\n", x, end - x, rows_end - 40);
+        text('t', x + GAP, 58, black, "hall " N, h);
+        text('l', x + GAP, 76, black, "its notes");
+        for (u64 p = 0; p < partitions; p++) {
+            if (!holds(h, p))
+                continue;
+            x = lane_left[server_lane[h][p]] + GAP;
+            text('l', x, 76, black, "server " SERVER, h, p);
+            sessions_of(h, p, line, sizeof line);
+            if (line[0] != 0)
+                text('l', x, 92, colour_of(START), "%s", line);
+        }
+    }
+}
+
+static int by_size(const void *a, const void *b) {
+    u64 x = *(const u64 *)a, y = *(const u64 *)b;
+    return (x > y) - (x < y);
+}
+
+static void draw_band(int x, int wide, int from, int to) {
+    if (wide > 0 && to > from)
+        printf("<path d=\"M%d %dh%dv%dh%d\" fill=\"#bfe6cd\" stroke=\"#1b7a45\"/>\n", x, from, -wide, to - from, wide);
+}
+
+/* Left of a server's line a band shows its stable time: the later, the wider, among all those of the run. */
+static void draw_stable_times(void) {
+    static u64 times[STEPS + 1];
+    int count = 1; /* all begin at 0 */
+    for (int i = 0; i < row_count; i++)
+        if (rows[i].sets_stable)
+            times[count++] = rows[i].stable;
+    qsort(times, (size_t)count, sizeof times[0], by_size);
+    int distinct = 1;
+    for (int i = 1; i < count; i++)
+        if (times[i] != times[distinct - 1])
+            times[distinct++] = times[i];
+    for (int lane = 0; lane < lane_count; lane++) {
+        int wide = 0, from = HEAD;
+        for (int i = 0; i < row_count; i++) {
+            if (!rows[i].sets_stable || rows[i].lane != lane)
+                continue;
+            u64 *place = bsearch(&rows[i].stable, times, (size_t)distinct, sizeof times[0], by_size);
+            int now = distinct == 1 ? 0 : BAND * (int)(place - times) / (distinct - 1);
+            if (now == wide)
+                continue;
+            draw_band(lane_x[lane], wide, from, y_of(i));
+            wide = now;
+            from = y_of(i);
+        }
+        draw_band(lane_x[lane], wide, from, HEAD + ROW * row_count);
+    }
+}
+
+static void draw_lines(void) {
+    for (int i = 0; i <= row_count; i += 5)
+        printf("<path d=\"M%d %dH%d\" stroke=\"#ddd\"/>\n", LEFT, HEAD + ROW * i, lane_left[lane_count] - GAP);
+    for (int lane = 0; lane < lane_count; lane++)
+        printf("<path d=\"M%d %dV%d\" stroke=\"#999\"/>\n", lane_x[lane], HEAD, HEAD + ROW * row_count);
+}
+
+static void draw_message(int x, int y, int to_x, int to_y, bool taken, bool carries) {
+    if (taken)
+        printf("<path d=\"M%d %dL%d %d\" stroke=\"#6a3d9a\" stroke-width=\"%s\" marker-end=\"url(#copy)\"/>\n", x, y, to_x, to_y,
+               carries ? "2.5" : "1");
+    else
+        printf("<path d=\"M%d %dl%d 8\" stroke=\"#6a3d9a\" stroke-width=\"%s\" stroke-dasharray=\"3 3\"/>\n", x, y,
+               to_x > x ? 40 : -40, carries ? "2.5" : "1");
+}
+
+static void draw_time(int x, int to, int y) {
+    printf("<path d=\"M%d %dH%d\" stroke=\"#1b7a45\" stroke-width=\"1.5\" marker-end=\"url(#time)\"/>\n", x, y, to);
+}
+
+/* Deliveries slope down from the install that sent them. What a step asks of another lane goes straight across. */
+static void draw_arrows(void) {
+    for (int m = 0; m < message_count; m++) {
+        const struct Message *a = &messages[m];
+        draw_message(lane_x[a->from], y_of(a->sent), lane_x[a->to], y_of(a->taken), a->taken != NONE, a->carries);
+    }
+    for (int i = 0; i < row_count; i++) {
+        const struct Row *row = &rows[i];
+        if (row->lane == NONE || row->asker == NONE || row->lane == row->asker)
+            continue;
+        int x = lane_x[row->asker], to = lane_x[row->lane], y = y_of(i);
+        if (row->code == REPORT || row->code == SHARE || row->code == LEARN)
+            draw_time(x, to, y);
+        else
+            printf("<path d=\"M%d %dH%d\" stroke=\"%s\"%s/>\n", x, y, to, colour_of(row->code),
+                   row->code == READ ? " stroke-dasharray=\"2 3\"" : "");
+    }
+}
+
+static void draw_rows(void) {
+    for (int i = 0; i < row_count; i++) {
+        const struct Row *row = &rows[i];
+        int y = y_of(i);
+        bool taken = row->refusal == 0;
+        text('n', words_at - 8, y + 4, "#777", "%d", i + 1);
+        text('w', words_at, y + 4, taken ? black : red, "%s", row->words);
+        if (row->lane == NONE)
+            continue;
+        int x = lane_x[row->lane];
+        printf("<rect x=\"%d\" y=\"%d\" width=\"%d\" height=\"14\" fill=\"#f4f4f1\"/>\n", x + LABEL_AT - 1, y - 7,
+               label_width(strlen(row->label)) + 2);
+        mark(taken ? row->code : REFUSED, x, y);
+        text('l', x + LABEL_AT, y + 4, taken ? colour_of(row->code) : red, "%s", row->label);
+    }
+    if (ending[0] != 0)
+        text('t', words_at, HEAD + ROW * row_count + ROW, red, "%s", ending);
+}
+
+static void draw_legend(void) {
+    int columns = legend_columns(), top = rows_end + 2 * ROW;
+    for (int i = 0; i < LEGENDS; i++) {
+        int x = LEFT + LEGEND_COLUMN * (i % columns) + 24, y = top + LEGEND_ROW * (i / columns);
+        switch (legend[i].mark) {
+        case DELIVER:
+            draw_message(x - 20, y, x + 12, y, true, true);
+            break;
+        case LATE:
+            draw_message(x - 24, y - 4, x, y, false, true);
+            break;
+        case REPORT:
+            draw_time(x - 20, x + 12, y);
+            break;
+        case STABLE:
+            draw_band(x + 10, 24, y - 7, y + 7);
+            break;
+        default:
+            mark(legend[i].mark, x, y);
+        }
+        text('w', x + 24, y + 4, black, "%s", legend[i].words);
+    }
+}
+
+static void draw_arrow_head(const char *name, const char *colour) {
+    printf("<marker id=\"%s\" viewBox=\"0 0 10 10\" refX=\"10\" refY=\"5\" markerUnits=\"userSpaceOnUse\" markerWidth=\"10\" "
+           "markerHeight=\"10\" orient=\"auto\"><path d=\"M0 1l10 4l-10 4z\" fill=\"%s\"/></marker>\n",
+           name, colour);
+}
+
+static void draw(void) {
+    measure();
+    printf("<svg xmlns=\"http://www.w3.org/2000/svg\" width=\"%d\" height=\"%d\" viewBox=\"0 0 %d %d\" fill=\"none\">\n",
+           width, height, width, height);
+    puts("<style>text{font-family:system-ui,'Segoe UI',Roboto,Helvetica,Arial,sans-serif}.t{font-size:14px;font-weight:600}"
+         ".w{font-size:12px}.l{font-size:11px}.n{font-size:11px;text-anchor:end}</style>");
+    draw_arrow_head("copy", colour_of(DELIVER));
+    draw_arrow_head("time", colour_of(LEARN));
+    printf("<rect width=\"%d\" height=\"%d\" fill=\"#fff\"/>\n", width, height);
+    text('t', LEFT, 26, black, "halls: " N ", servers: " N ", sessions: " N ", steps: %d", halls, servers,
+         halls == 0 ? 0 : session_count, row_count);
+    draw_halls();
+    draw_stable_times();
+    draw_lines();
+    draw_arrows();
+    draw_rows();
+    draw_legend();
+    puts("</svg>");
+}
+
+int main(int count, char **arguments) {
+    if (count != 3) {
+        fputs("use: draw SCRIPT PRINTOUT >PICTURE.svg\n", stderr);
+        return 1;
+    }
+    run(read_file(arguments[1], SCRIPT_LIMIT), read_file(arguments[2], PRINTOUT_LIMIT));
+    draw();
+    return fflush(stdout) == 0 && !ferror(stdout) ? 0 : 1;
+}
