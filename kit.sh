@@ -1,13 +1,13 @@
 # To be sourced, with $top set to this folder: what bench and c/check.sh ask of the kit.
 
-# build FILE WORDS: makes target/FILE by `rt WORDS` where it is missing or older than a crate.
+# build FILE NAME [WORD]: proves the crate NAME and, by `rt WORD NAME`, makes target/FILE of it, where that is missing or older than
+# a crate. (A program is made as it is proved.)
 build() {
     made=$top/target/$1
-    shift
     if [ -e "$made" ] && [ -z "$(find "$top/crates" "$top/crates.txt" -newer "$made" -type f | head -n 1)" ]; then return; fi
     echo "building $(basename "$made") ..." >&2
     log=$(mktemp)
-    if ! (cd "$top" && rt "$@") >"$log" 2>&1; then
+    if ! (cd "$top" && rt check "$2" && { [ -z "${3:-}" ] || rt "$3" "$2"; }) >"$log" 2>&1; then
         tail -n 20 "$log" >&2
         rm -f "$log"
         return 1

@@ -19,7 +19,7 @@ if [ "$(uname -m)" != x86_64 ]; then
     fi
 fi
 
-build staticlib/libcranktimber.a staticlib cranktimber || exit 1
+build staticlib/libcranktimber.a cranktimber staticlib || exit 1
 "$compiler" -std=c11 -O2 -Wall -Wextra -Werror -o "$work/test" ../c/test.c store.c "$top/target/staticlib/libcranktimber.a" ||
     { echo "c: the test does not build"; exit 1; }
 last=$((seed + count))
