@@ -1,5 +1,5 @@
 #!/bin/sh
-# How fast is bench, as a ratio to the second program: ten scripts of 8,000 steps, twenty times over, best of five, in one run.
+# How fast is bench, as a ratio to the second program: ten scripts of 8,000 steps, twenty times over, best of ten, in one run.
 # Only on x86-64: elsewhere bench runs under an emulator, and its time says nothing.
 [ "$(uname -m)" = x86_64 ] || { echo "speed: this is no x86-64 machine"; exit 0; }
 CDPATH='' cd -- "$(dirname -- "$0")" || exit 1
@@ -20,14 +20,13 @@ rounds() {
     done
     echo $((($(date +%s%N) - from) / 1000000))
 }
-best() {
-    low=$(rounds "$1")
-    for _ in 2 3 4 5; do
-        now=$(rounds "$1")
-        [ "$now" -ge "$low" ] || low=$now
-    done
-    echo "$low"
-}
-ours=$(best "$work/bench")
-theirs=$(best "$work/second")
+# in turns, so that both meet the same machine
+ours=$(rounds "$work/bench")
+theirs=$(rounds "$work/second")
+for _ in 2 3 4 5 6 7 8 9 10; do
+    now=$(rounds "$work/bench")
+    [ "$now" -ge "$ours" ] || ours=$now
+    now=$(rounds "$work/second")
+    [ "$now" -ge "$theirs" ] || theirs=$now
+done
 echo "bench $ours ms, second program $theirs ms, ratio $(awk "BEGIN { printf \"%.2f\", $ours / $theirs }")"
