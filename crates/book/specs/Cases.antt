@@ -1,11 +1,11 @@
 -- Cases on a test, and on whether two cells are one.
 use Prim.Native.Nat.{ℕ, _<_}
-use mathlib.Core.Bool.{Bool, true, false, cond, _&&_, not, false≢true}
+use mathlib.Core.Bool.{Bool, true, false, cond, _&&_, false≢true}
 use mathlib.Core.Path.{_≡_, refl}
 use native.Mathlib.Omega.{arith}
 use lib.Dec.{eqb}
 use borrow.Author.Tests.{eqb-true, eqb-false, eq-eqb}
-use Rattle.book.specs.Cells.{Cell, same, Store, _⟨_≔_⟩}
+use Rattle.book.specs.Cells.{Cell, same}
 
 -- where a holds, b does
 abbrev pub implies : Bool → Bool → Bool

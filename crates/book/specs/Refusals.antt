@@ -3,7 +3,7 @@ use Prim.Native.Nat.{ℕ}
 use mathlib.Core.Bool.{Bool, cond, _&&_, _||_, not}
 use lib.Dec.{eqb, ltb, leb}
 use Rattle.book.specs.Sizes.{hallsMax, partitionsMax, keys, placesMax, slots, readingMax}
-use Rattle.book.specs.Cells.{Store, Halls, Partitions, Sessions, Transactions, Reading, Status, idle, running, CommitTime, State, asked, prepared, Waiting}
+use Rattle.book.specs.Cells.{Store, Halls, Partitions, Sessions, Transactions, Reading, Status, idle, running, State, asked, prepared, Waiting}
 use Rattle.book.specs.Folds.{any, all}
 use Rattle.book.specs.Servers.{holds, partitionOf, placeOf}
 use Rattle.book.specs.Views.{decided}

@@ -11,7 +11,6 @@ use Rattle.book.specs.declared.View.the-variants.{Nothing, Seen}
 use Rattle.book.specs.Cells.{Store, WriteSet, ReadSet, CacheTime, Snapshot}
 use Rattle.book.specs.Cases.{by-test, by-eq}
 use Rattle.book.specs.Sets.{member}
-use Rattle.book.specs.declared.Numbers.{Numbers}
 use Rattle.book.specs.Answers.{triple, viewNumbers, numbers}
 use Rattle.book.specs.Servers.{placeOf}
 use Rattle.book.specs.Views.{heldView}
@@ -139,7 +138,7 @@ refused-unchanged σ code a b c n = rw (ne-eqb (refusal σ code a b c) 0 n) (ref
 abbrev Taken : Rule → Type 0
 Taken x = numbers (x .answer) .refusal ≡ 0
 
-view-taken : (w : View) → viewNumbers w .refusal ≡ 0
+pub view-taken : (w : View) → viewNumbers w .refusal ≡ 0
 view-taken Nothing = refl
 view-taken (Seen v s) = refl
 

@@ -3,6 +3,9 @@
 // "a clock reading, a hybrid timestamp and a transaction number are kept apart"
 pub struct Reading(pub u64);
 
+// "clock readings 0 to 2^48 - 1"
+pub const READING_MAX: u64 = 281474976710655;
+
 pub struct Timestamp(pub u64);
 
 pub struct TxNumber(pub u64);

@@ -11,6 +11,7 @@ ghost use Rattle.book.specs.Setup.{heldSomewhere, partitionsHeld, goodHalls, go
 ghost use Rattle.book.specs.WellFormed.{pairsPrepared, timeBound, channelOk, serverOk, sessionOk, pairOk, transactionOk, wellFormed};
 ghost use Rattle.room.specs.Layout.{size, Within, store};
 ghost use Rattle.formed.specs.Blocks.{hasBit, maskOk, partitionOk, homeOk, preparedAt, clockOk, entryOk, hallOk, cachedOk, highestState, sharesOk, keptOk};
+use book::READING_MAX;
 use book::Timestamp;
 use room::BY;
 use room::CACHE_TIME;
@@ -41,9 +42,6 @@ use room::STATUS;
 use room::TRANSACTIONS;
 use room::WAITING;
 use room::WRITE_SET;
-
-// "clock readings 0 to 2^48 - 1"
-const READING_MAX: u64 = 281474976710655;
 
 // A set of the 32 keys is below it.
 const KEY_SETS: u64 = 4294967296;

@@ -1,7 +1,7 @@
 -- 3: "unknown code"
 use Prim.Native.Nat.{ℕ}
 use mathlib.Core.Bool.{Bool, false, cond}
-use mathlib.Core.Path.{_≡_, refl, ap, _∙_}
+use mathlib.Core.Path.{_≡_, ap, _∙_}
 use borrow.Author.Tests.{ne-eqb}
 use Rattle.book.specs.Cells.{Store}
 use Rattle.book.specs.Steps.{Rule, ruleOf, refusal, noRule}

@@ -13,6 +13,7 @@ ghost use Rattle.book.specs.ReplicationSteps.{sendsTo};
 ghost use Rattle.room.specs.Layout.{size, store};
 ghost use Rattle.book.specs.Steps.{refusal as refusalOf};
 ghost use Rattle.ladders.specs.Sized.{Sized};
+use book::READING_MAX;
 use room::COMMIT_TIME;
 use room::HALLS;
 use room::PARTITIONS;
@@ -23,8 +24,6 @@ use room::STATUS;
 use room::TRANSACTIONS;
 use room::WAITING;
 use room::WRITE_SET;
-
-const READING_MAX: u64 = 281474976710655;
 
 fn when(a: bool, n: u64, rest: u64) -> u64
     ensures { λ r. ⌜ r ≡ cond a n rest ⌝ }

@@ -2,7 +2,7 @@
 use Prim.Native.Nat.{ℕ, _<_, _≤_}
 use mathlib.Core.List.{List}
 use mathlib.Core.Bool.{Bool, true, false, cond, true≢false, false≢true}
-use mathlib.Core.Path.{_≡_, refl, sym, _∙_, ap}
+use mathlib.Core.Path.{_≡_, refl, ap}
 use lib.Dec.{ltb}
 use lib.ListN.{length, getD}
 use borrow.Author.Tests.{ltb-true, ltb-false}

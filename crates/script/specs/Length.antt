@@ -14,7 +14,7 @@ use Rattle.scan.specs.declared.Four.{Four}
 use Rattle.scan.specs.declared.Four.the-variants.{Step, Bad as BadFour}
 use Rattle.scan.specs.declared.Section.{Section}
 use Rattle.scan.specs.declared.Section.the-variants.{Whole, Outside, Bad as BadSection}
-use Rattle.scan.specs.Number.{countMax, countAt, count-within}
+use Rattle.scan.specs.Number.{countMax, countAt, either, count-within}
 use Rattle.scan.specs.Groups.{onFour, by-number, fourAt, four-within}
 use Rattle.scan.specs.Sections.{onSection, sectionAt, SectionWithin, section-within}
 use Rattle.ink.specs.Decimal.{lineMax, scriptMax, length-line, length-script}
@@ -65,10 +65,6 @@ module _ (P : Outcome → Type 0) where
   by-section most end xs Outside w h i l = i
   by-section most end xs (Whole n p) w h i l = l n p (w .2)
 
-  either : (b : Bool) {o p : Outcome} → P o → P p → P (cond b o p)
-  either true h l = h
-  either false h l = l
-
 refused-short : (σ : Store) → Short capacity (refused σ)
 refused-short σ = omega (arith, length-line 0 2 0 0 (omega arith) (omega arith))
 
@@ -79,7 +75,7 @@ module _ (text : List ℕ) (fits : length text ≤ textMax) where
   steps-short : (n i at : ℕ) (σ : Store) → i + n ≤ 10000 → at ≤ length text → Short (n * lineMax + scriptMax) (stepsFrom n i text at σ)
   unfolding stepsFrom
   steps-short zero i at σ h l =
-      either (Short scriptMax) (ltb at (length text)) (stop-short scriptMax σ (omega arith) at l) (omega arith)
+      either (Short scriptMax) (ltb at (length text)) (λ _. stop-short scriptMax σ (omega arith) at l) (omega arith)
   steps-short (suc n) i at σ h l =
       let m = suc n * lineMax + scriptMax in
       by-four (Short m) (fourAt text at)
@@ -112,7 +108,7 @@ module _ (text : List ℕ) (fits : length text ≤ textMax) where
         arith,
         length-append (lineOf 0 x) (cond b o (only [] σ) .bytes),
         length-line 0 (x .refusal) (x .first) (x .second) (omega arith) (setup-small masks homes),
-        either (Short (countMax * lineMax + scriptMax)) b {o = o} {p = only [] σ} (counted-short at (firstStore masks homes) l) (omega arith),
+        either (Short (countMax * lineMax + scriptMax)) b {x = o} {y = only [] σ} (λ _. counted-short at (firstStore masks homes) l) (omega arith),
       )
 
   sessions-short : (masks : List ℕ) (at : ℕ) (σ : Store) → at ≤ length text → Short capacity (sessionsFrom masks text at σ)

@@ -4,44 +4,40 @@ use mathlib.Core.Bool.{Bool, true, false, cond, _&&_, not}
 use mathlib.Core.Path.{_≡_}
 use native.Mathlib.Omega.{arith}
 use lib.Dec.{eqb, ltb, leb}
-use borrow.Author.Tests.{ltb-true, leb-true, eqb-true, eqb-false}
+use borrow.Author.Tests.{ltb-true, leb-true, eqb-false}
 use Rattle.book.specs.Sizes.{hallsMax, partitionsMax, sessionsMax, keys, placesMax, slots, timeMax}
-use Rattle.book.specs.Cells.{Store, Halls, Partitions, Sessions, Transactions, Status, idle, running, HomeHall, HomePartition, By, First, Waiting}
+use Rattle.book.specs.Cells.{Store, Halls, Partitions, Sessions, Transactions, Status, running, HomeHall, HomePartition, By, First, Waiting}
 use Rattle.book.specs.Cases.{and-true, passed}
 use Rattle.book.specs.Servers.{holds, partitionOf, placeOf}
 use Rattle.book.specs.SessionSteps.{hasWrites}
-use Rattle.book.specs.Refusals.{sessionThere, transactionThere, unused, tickRefusal, startRefusal, readRefusal, writeRefusal, endRefusal, prepareRefusal, decideRefusal, commitRefusal, installRefusal, deliverRefusal, serverRefusal, shareRefusal}
+use Rattle.book.specs.Refusals.{sessionThere, transactionThere, unused, tickRefusal, startRefusal, readRefusal, writeRefusal, endRefusal, prepareRefusal, decideRefusal, commitRefusal, deliverRefusal, shareRefusal}
 use Rattle.book.specs.WellFormed.{wellFormed, timeBound}
 use Rattle.theorems.specs.Step.{asked-for}
 use Rattle.theorems.specs.Tally.{prepared-most}
-use Rattle.theorems.specs.Formed.{Formed, Times, formed, layout, server-small}
+use Rattle.theorems.specs.Setup.{Setup, good-setup, server-small}
+use Rattle.theorems.specs.Formed.{Formed, Times, formed}
 use Rattle.theorems.specs.KeptSteps.{times-le}
-use Rattle.ladders.specs.Sized.{Sized, session-in, transaction-in}
+use Rattle.ladders.specs.Sized.{Sized, session-in}
 use Rattle.views.specs.Partitions.{Parted}
 use Rattle.sessions.specs.Starting.{Homed}
 use Rattle.commits.specs.Safe.{Numbered, Coordinated, Timely, Writing}
-use Rattle.replication.specs.Safe.{Coordinated as AllCoordinated, Channel, Timely as AllTimely, Outgoing}
+use Rattle.replication.specs.Safe.{Coordinated as AllCoordinated, Channel, Timely as AllTimely}
 
 module _ (σ : Store) (w : wellFormed σ ≡ true) where
   facts : Formed σ
   facts = formed σ w
 
+  laid : Setup σ
+  laid = good-setup σ (facts .setup)
+
   pub sized : Sized σ
-  sized =
-      let F = facts in
-      let L = layout σ (F .setup) in
-      let m = F .places in
-      let h = server-small σ L (σ (HomeHall 0)) (σ (HomePartition 0)) (L .homes 0 (L .session)) in
-      let p = ltb-true (σ (HomePartition 0)) (σ Partitions)
-      (and-true (ltb (σ (HomePartition 0)) (σ Partitions)) _
-      (and-true (ltb (σ (HomeHall 0)) (σ Halls)) _ (L .homes 0 (L .session)) .1) .0) in
-      record { halls = L .halls; some = omega arith; partitions = L .partitions; sessions = L .sessions; transactions = m }
+  sized = record { halls = laid .halls; some = laid .partition; partitions = laid .partitions; sessions = laid .sessions; transactions = facts .places }
 
   times : Times σ timeMax
   times = let m = prepared-most σ in times-le σ (timeBound σ) _ (omega arith) (facts .times)
 
   server : (h p : ℕ) → holds σ h p ≡ true → (h < hallsMax) × (p < partitionsMax)
-  server h p e = server-small σ (layout σ (facts .setup)) h p e
+  server = server-small σ laid
 
   parted : Parted σ
   parted = (sized .some, sized .partitions)
@@ -71,7 +67,7 @@ module _ (σ : Store) (w : wellFormed σ ≡ true) where
   start-in s y z e =
       let a = asked-for (sessionThere σ s && (unused y && unused z)) 3 _ (omega arith) e .0 in
       let l = ltb-true s (σ Sessions) (and-true (sessionThere σ s) _ a .0) in
-      let h = server (σ (HomeHall s)) (σ (HomePartition s)) (layout σ (facts .setup) .homes s l) in
+      let h = server (σ (HomeHall s)) (σ (HomePartition s)) (laid .homes s l) in
       (session s _ _ e, h .0, h .1)
 
   pub read-in : (s k h : ℕ) → readRefusal σ s k h ≡ 0 → (s < sessionsMax) × (k < keys) × (h < hallsMax) × Parted σ

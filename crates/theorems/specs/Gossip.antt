@@ -1,5 +1,5 @@
 -- What halls tell one another, over the steps.
-use Prim.Native.Nat.{ℕ, _≤_, _<_}
+use Prim.Native.Nat.{ℕ, _≤_}
 use mathlib.Core.Bool.{true}
 use mathlib.Core.Path.{_≡_}
 use native.Mathlib.Nat.{le-trans}
@@ -10,24 +10,18 @@ use Rattle.book.specs.Sizes.{hallsMax, partitionsMax}
 use Rattle.book.specs.Cells.{Store, Halls, Stable, Entry, HomeHall, HomePartition, Snapshot, Note, Shared}
 use Rattle.book.specs.Cases.{by-cell}
 use Rattle.book.specs.Folds.{lowest-le}
-use Rattle.book.specs.Servers.{holds, holds-hall, holds-partition, atHome}
+use Rattle.book.specs.Servers.{holds, holds-hall, atHome}
 use Rattle.book.specs.SessionSteps.{snapshot, start}
 use Rattle.book.specs.GossipSteps.{report, share, learn}
-use Rattle.theorems.specs.Inv.{Setup, GossipOver, Gossip, Inv}
-
--- a server stands in one of 4 halls, for one of 4 partitions
-pub hall-fits : (σ : Store) → Setup σ → (h p : ℕ) → holds σ h p ≡ true → h < hallsMax
-hall-fits σ U h p e = le-trans (holds-hall σ h p e) (U .halls .1)
-
-pub partition-fits : (σ : Store) → Setup σ → (h p : ℕ) → holds σ h p ≡ true → p < partitionsMax
-partition-fits σ U h p e = le-trans (holds-partition σ h p e) (U .partitions .1)
+use Rattle.theorems.specs.Setup.{server-small}
+use Rattle.theorems.specs.Inv.{GossipOver, Gossip, Inv}
 
 module _ (σ : Store) (I : Inv σ) where
   pub report-gossip : (h p : ℕ) → Gossip (report σ h p)
   report-gossip h p = record {
     note = λ h′ p′ g e.
         by-cell (Note h p) (Note h′ p′)
-        (λ q c. rw (c, ← q .i, ← q .j) (lowest-le _ _ _ g (hall-fits σ (I .setup) g p′ e) (rw (q .j) e)))
+        (λ q c. rw (c, ← q .i, ← q .j) (lowest-le _ _ _ g (server-small σ (I .setup) g p′ e .0) (rw (q .j) e)))
         (λ c. rw c (I .gossip .note h′ p′ g e));
     shared = I .gossip .shared;
     stable = I .gossip .stable;
@@ -39,7 +33,7 @@ module _ (σ : Store) (I : Inv σ) where
     note = I .gossip .note;
     shared = λ to′ f′ p g e e′.
         by-cell (Shared to f) (Shared to′ f′)
-        (λ q c. let b = lowest-le partitionsMax (λ p. holds σ f p) (λ p. σ (Note f p)) p (partition-fits σ (I .setup) f′ p e) (rw (q .j) e) in
+        (λ q c. let b = lowest-le partitionsMax (λ p. holds σ f p) (λ p. σ (Note f p)) p (server-small σ (I .setup) f′ p e .1) (rw (q .j) e) in
         let n = I .gossip .note f p g e′ in
         rw (c, ← q .j) (omega arith))
         (λ c. rw c (I .gossip .shared to′ f′ p g e e′));
@@ -54,7 +48,7 @@ module _ (σ : Store) (I : Inv σ) where
     stable = λ a b h′ p′ g e e′.
         by-cell (Stable h p) (Stable a b)
         (λ q c. let b = lt-ltb h′ (σ Halls) (holds-hall σ h′ p′ e) in
-        let l = lowest-le hallsMax (λ f. ltb f (σ Halls)) (λ f. σ (Shared h f)) h′ (hall-fits σ (I .setup) h′ p′ e) b in
+        let l = lowest-le hallsMax (λ f. ltb f (σ Halls)) (λ f. σ (Shared h f)) h′ (server-small σ (I .setup) h′ p′ e .0) b in
         let n = I .gossip .shared h h′ p′ g e e′ in
         let o = I .gossip .stable h p h′ p′ g e e′ in
         rw c (omega arith))

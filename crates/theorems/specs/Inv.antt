@@ -3,26 +3,12 @@ use Prim.Native.Nat.{ℕ, _≤_, _<_}
 use mathlib.Core.Bool.{true}
 use mathlib.Core.Path.{_≡_}
 use mathlib.Core.Logic.{_⊎_}
-use Rattle.book.specs.Sizes.{hallsMax, partitionsMax, keys, placesMax}
-use Rattle.book.specs.Cells.{Store, Halls, Partitions, Sessions, Transactions, Hybrid, Stable, Entry, Held, HomeHall, HomePartition, Snapshot, From, CommitTime, KeySet, State, asked, prepared, waiting, installed, Proposed, Waiting, ClockSent, Carries, Note, Shared}
+use Rattle.book.specs.Sizes.{partitionsMax, keys, placesMax}
+use Rattle.book.specs.Cells.{Store, Halls, Transactions, Hybrid, Stable, Entry, Held, Snapshot, From, CommitTime, KeySet, State, asked, prepared, waiting, installed, Proposed, Waiting, ClockSent, Carries, Note, Shared}
 use Rattle.book.specs.Sets.{member}
 use Rattle.book.specs.Servers.{holds, partitionOf, writer}
 use Rattle.book.specs.ReplicationSteps.{slotOf}
-
--- what was set up; no step changes it
-abbrev pub Setup : Store → Type 0
-Setup σ = record {
-  -- there are 1 to 4 halls
-  halls : (0 < σ Halls) × (σ Halls ≤ hallsMax);
-  -- and 1 to 4 partitions
-  partitions : (0 < σ Partitions) × (σ Partitions ≤ partitionsMax);
-  -- each hall holds a partition
-  peopled : (h : ℕ) → h < σ Halls → (p : ℕ) × (holds σ h p ≡ true);
-  -- each partition is held by a hall
-  covered : (p : ℕ) → p < σ Partitions → (h : ℕ) × (holds σ h p ≡ true);
-  -- each session's home is a server
-  homes : (s : ℕ) → s < σ Sessions → holds σ (σ (HomeHall s)) (σ (HomePartition s)) ≡ true;
-}
+use Rattle.theorems.specs.Setup.{Setup}
 
 -- the clocks, and what is under way at a writing server
 abbrev pub Clocks : Store → Type 0

@@ -21,7 +21,8 @@ use Rattle.book.specs.GossipSteps.{lowestEntry, report, lowestOf, share, lowest
 use Rattle.book.specs.Steps.{after}
 use Rattle.theorems.specs.Step.{Step, next}
 use Rattle.theorems.specs.Tally.{prepared-le, prepared-lt}
-use Rattle.theorems.specs.Formed.{All1, All2, All3, Times, Formed, Layout, layout, server-small, writer-small}
+use Rattle.theorems.specs.Setup.{Setup, good-setup, server-small}
+use Rattle.theorems.specs.Formed.{All1, All2, All3, Times, Formed, writer-small}
 
 -- what holds of both holds of the one that is chosen
 of-both : (P : ℕ → Type 0) (b : Bool) (v w : ℕ) → P v → P w → P (cond b v w)
@@ -77,8 +78,8 @@ module _ (σ : Store) (F : Formed σ) where
   abbrev T : Times σ b
   T = F .times
 
-  L : Layout σ
-  L = layout σ (F .setup)
+  U : Setup σ
+  U = good-setup σ (F .setup)
 
   tick-formed : (h p x : ℕ) → x ≤ readingMax → Formed (tick σ h p x)
   tick-formed h p x l = let reading = put2 (_≤ readingMax) σ Reading h p x l (F .reading) in search
@@ -87,9 +88,9 @@ module _ (σ : Store) (F : Formed σ) where
   start-formed s l =
       let h = σ (HomeHall s) in
       let p = σ (HomePartition s) in
-      let home = server-small σ L h p (L .homes s l) in
+      let home = server-small σ U h p (U .homes s l) in
       let x = T .stable h p (home .0) (home .1) in
-      let y = T .snapshot s (omega (arith, L)) in
+      let y = T .snapshot s (omega (arith, U)) in
       let new : snapshot σ s ≤ b = omega arith in
       let stable = put2 (_≤ b) σ Stable h p _ new (T .stable) in
       let snapshots = put1 (_≤ b) σ Snapshot s _ new (T .snapshot) in
@@ -102,14 +103,14 @@ module _ (σ : Store) (F : Formed σ) where
 
   read-formed : (s k h : ℕ) → s < σ Sessions → k < keys → Formed (read σ s k h)
   read-formed s k h l m =
-      let x = F .reads s (omega (arith, L)) in
+      let x = F .reads s (omega (arith, U)) in
       let new = of-both (_< 2 ^ keys) (eqb (numbers (readAnswer σ s k h) .first) 1) _ _ (include-lt keys _ k x m) x in
       let reads = put1 (_< 2 ^ keys) σ ReadSet s _ new (F .reads) in
       search
 
   write-formed : (s k v : ℕ) → s < σ Sessions → k < keys → Formed (write σ s k v)
   write-formed s k v l m =
-      let new = include-lt keys _ k (F .writes s (omega (arith, L))) m in
+      let new = include-lt keys _ k (F .writes s (omega (arith, U))) m in
       let writes = put1 (_< 2 ^ keys) σ WriteSet s _ new (F .writes) in
       search
 
@@ -119,7 +120,7 @@ module _ (σ : Store) (F : Formed σ) where
   ask-formed : (s : ℕ) → s < σ Sessions → σ Transactions < placesMax → Formed (ask σ s)
   ask-formed s l m =
       let t = σ Transactions in
-      let home = holds-hall σ (σ (HomeHall s)) (σ (HomePartition s)) (L .homes s l) in
+      let home = holds-hall σ (σ (HomeHall s)) (σ (HomePartition s)) (U .homes s l) in
       let asks : ℕ → ℕ → Bool = λ u p. eqb t u && touches σ (σ (WriteSet s)) p in
       let free : (u p : ℕ) → u < placesMax → p < partitionsMax → t ≡ u → σ (State u p) ≤ 0 =
       λ u p i j q. rw (le-ltb u t (omega arith)) at (F .state u p i j) in
@@ -131,7 +132,7 @@ module _ (σ : Store) (F : Formed σ) where
       let places : ask σ s Transactions ≤ placesMax = m in
       let session = put1 (_< σ Sessions) σ By t s l (F .session) in
       let hall = put1 (_< σ Halls) σ From t _ home (F .hall) in
-      let keys = put1 (_< 2 ^ keys) σ KeySet t _ (F .writes s (omega (arith, L))) (F .keys) in
+      let keys = put1 (_< 2 ^ keys) σ KeySet t _ (F .writes s (omega (arith, U))) (F .keys) in
       let state : (u p : ℕ) → u < placesMax → p < partitionsMax → ask σ s (State u p) ≤ cond (ltb u (suc t)) 4 0 =
       λ u p i j. by-eq t u
       (λ q c. rw (lt-ltb u (suc t) (omega arith))
@@ -156,13 +157,13 @@ module _ (σ : Store) (F : Formed σ) where
   prepare-formed : (t p : ℕ) → t < σ Transactions → p < σ Partitions → σ (State t p) ≡ 1 → Formed (prepare σ t p)
   prepare-formed t p l m e =
       let i : t < placesMax = omega (arith, F .places) in
-      let j : p < partitionsMax = omega (arith, L) in
+      let j : p < partitionsMax = omega (arith, U) in
       let w = writer-small σ F t p i in
       let k = F .session t i in
       let r = F .reading (writer σ t p) p w j in
       let h = T .hybrid (writer σ t p) p w j in
-      let c = T .last (σ (By t)) (omega (arith, L)) in
-      let S = T .snapshot (σ (By t)) (omega (arith, L)) in
+      let c = T .last (σ (By t)) (omega (arith, U)) in
+      let S = T .snapshot (σ (By t)) (omega (arith, U)) in
       let B = timeBound (prepare σ t p) in
       let up = raised t p 2 l (omega arith) (omega arith) in
       let more = prepared-lt σ (prepare σ t p) up t p i j (omega arith) (rw (at-same (State t p)) (omega arith)) in
@@ -191,7 +192,7 @@ module _ (σ : Store) (F : Formed σ) where
   commit-formed : (t p : ℕ) → t < σ Transactions → p < σ Partitions → σ (State t p) ≡ 2 → Formed (commit σ t p)
   commit-formed t p l m e =
       let i : t < placesMax = omega (arith, F .places) in
-      let j : p < partitionsMax = omega (arith, L) in
+      let j : p < partitionsMax = omega (arith, U) in
       let w = writer-small σ F t p i in
       let r = F .reading (writer σ t p) p w j in
       let h = T .hybrid (writer σ t p) p w j in
@@ -209,7 +210,7 @@ module _ (σ : Store) (F : Formed σ) where
   install-formed : (h p : ℕ) → holds σ h p ≡ true → ((g : ℕ) → g < hallsMax → sendsTo σ h p g ≡ true → σ (Waiting g p h) < slots)
       → Formed (install σ h p)
   install-formed h p e room =
-      let k = server-small σ L h p e in
+      let k = server-small σ U h p e in
       let r = F .reading h p (k .0) (k .1) in
       let y = T .hybrid h p (k .0) (k .1) in
       let z = lowest-within placesMax (preparedAt σ h p) (λ t. σ (Proposed t p)) b (λ t i. T .proposed t p i (k .1)) in
@@ -242,8 +243,8 @@ module _ (σ : Store) (F : Formed σ) where
 
   deliver-formed : (p f g : ℕ) → holds σ f p ≡ true → holds σ g p ≡ true → Formed (deliver σ p f g)
   deliver-formed p f g e e′ =
-      let k = server-small σ L f p e in
-      let m = server-small σ L g p e′ in
+      let k = server-small σ U f p e in
+      let m = server-small σ U g p e′ in
       let new = T .sent g p f (slotOf σ g p f 0) (m .0) (m .1) (k .0) (omega arith) in
       let less = F .waiting g p f (m .0) (m .1) (k .0) in
       let entry = put3 (_≤ b) σ Entry g p f _ new (T .entry) in
@@ -253,21 +254,21 @@ module _ (σ : Store) (F : Formed σ) where
 
   report-formed : (h p : ℕ) → holds σ h p ≡ true → Formed (report σ h p)
   report-formed h p e =
-      let k = server-small σ L h p e in
+      let k = server-small σ U h p e in
       let new : lowestEntry σ h p ≤ b = lowest-within hallsMax _ (λ g. σ (Entry h p g)) b (λ g. T .entry h p g (k .0) (k .1)) in
       let note = put2 (_≤ b) σ Note h p _ new (T .note) in
       search
 
   share-formed : (f to : ℕ) → f < σ Halls → Formed (share σ f to)
   share-formed f to l =
-      let k : f < hallsMax = omega (arith, L) in
+      let k : f < hallsMax = omega (arith, U) in
       let new : lowestOf σ f ≤ b = lowest-within partitionsMax _ (λ p. σ (Note f p)) b (λ p. T .note f p k) in
       let shared = put2 (_≤ b) σ Shared to f _ new (T .shared) in
       search
 
   learn-formed : (h p : ℕ) → holds σ h p ≡ true → Formed (learn σ h p)
   learn-formed h p e =
-      let k = server-small σ L h p e in
+      let k = server-small σ U h p e in
       let x = T .stable h p (k .0) (k .1) in
       let y : lowestShared σ h ≤ b = lowest-within hallsMax _ (λ f. σ (Shared h f)) b (λ f. T .shared h f (k .0)) in
       let stable = put2 (_≤ b) σ Stable h p (stableAfter σ h p) (omega arith) (T .stable) in

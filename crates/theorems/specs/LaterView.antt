@@ -21,7 +21,7 @@ use Rattle.book.specs.Steps.{refusal, answer}
 use Rattle.book.specs.Reached.{Reached, Later}
 use Rattle.theorems.specs.Step.{Step, next, by-later}
 use Rattle.theorems.specs.Inv.{Inv, Below}
-use Rattle.theorems.specs.Gossip.{partition-fits}
+use Rattle.theorems.specs.Setup.{server-small}
 use Rattle.theorems.specs.Writer.{writer-holds}
 use Rattle.theorems.specs.Reach.{reached-inv, later-inv, later-below}
 use Rattle.theorems.specs.SnapshotRead.{mergeAll-agree, Fetches, snapshot-read}
@@ -37,8 +37,8 @@ module _ (σ : Store) (I : Inv σ) (S : ℕ) (B : Below σ S) where
       → member (σ (KeySet t)) k ≡ true → S < decision σ t
   decide-above t k kb un all w =
       let p = partitionOf σ k in
-      let kw = writer-holds σ I t p (mod-lt k (I .setup .partitions .0)) in
-      let p4 = partition-fits σ (I .setup) (writer σ t p) p kw in
+      let kw = writer-holds σ I t p (mod-lt k (I .setup .partition)) in
+      let p4 = server-small σ (I .setup) (writer σ t p) p kw .1 in
       let some = I .writes .written t k kb w in
       let s2 : σ (State t p) ≡ prepared = ⊎-elim (λ z. absurd (omega arith)) (λ z. z) (all p p4) in
       let a = I .clocks .above t p s2 in

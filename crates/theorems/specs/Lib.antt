@@ -1,4 +1,5 @@
 pub mod Step
+pub mod Setup
 pub mod Formed
 pub mod Tally
 pub mod KeptSteps

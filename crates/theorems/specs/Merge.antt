@@ -12,16 +12,8 @@ use Rattle.book.specs.Sizes.{placesMax}
 use Rattle.book.specs.Cells.{Store, Value}
 use Rattle.book.specs.Cases.{by-test, by-eq}
 use Rattle.book.specs.Servers.{numberOf}
-use Rattle.book.specs.Views.{later, merge, mergeAll, stampOf, version, wroteBy, decided, decidedView}
+use Rattle.book.specs.Views.{later, merge, merge-nothing, mergeAll, stampOf, version, wroteBy, decided, decidedView}
 use Rattle.theorems.specs.Stamps.{later-order, later-self, neither-later, one-later}
-
--- "nothing merged with a view is that view", on either side
-pub merge-nothing : (a : View) → merge a Nothing ≡ a
-merge-nothing Nothing = refl
-merge-nothing (Seen v s) = refl
-
-pub nothing-merge : (a : View) → merge Nothing a ≡ a
-nothing-merge a = refl
 
 pub merge-self : (a : View) → merge a a ≡ a
 merge-self Nothing = refl

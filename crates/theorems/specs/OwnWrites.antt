@@ -22,7 +22,7 @@ use Rattle.theorems.specs.Inv.{Inv}
 use Rattle.theorems.specs.Clocks.{state-stays}
 use Rattle.theorems.specs.Install.{has-asked}
 use Rattle.theorems.specs.Transactions.{touches-i}
-use Rattle.theorems.specs.Begun.{some-bit}
+use Rattle.theorems.specs.Setup.{some-bit}
 use Rattle.theorems.specs.Reach.{reached-inv}
 
 -- what session s has cached of key k is what its transaction t wrote
@@ -182,9 +182,9 @@ module _ (σ : Store) (I : Inv σ) (O : Own σ) where
       some = λ t b. by-eq (σ Transactions) t
           (λ q c.
           let k = some-bit keys (σ (WriteSet s)) (omega arith) (O .sets s) in
-          let l = mod-lt (k .0) (I .setup .partitions .0) in
+          let l = mod-lt (k .0) (I .setup .partition) in
           let z = touches-i σ (σ (WriteSet s)) (k .0) (k .1) (k .2) in
-          (partitionOf σ (k .0), le-trans l (I .setup .partitions .1), rw (c, z) (omega arith)))
+          (partitionOf σ (k .0), le-trans l (I .setup .partitions), rw (c, z) (omega arith)))
           (λ q c. let w = O .some t (omega arith) in (w .0, w .1, rw c (w .2)));
       busy = λ t b u. by-eq (σ Transactions) t
           (λ q c. rw (c, eqb-refl s))

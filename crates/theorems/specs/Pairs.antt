@@ -16,7 +16,8 @@ use Rattle.book.specs.ReplicationSteps.{installs, install}
 use Rattle.book.specs.Reached.{Reached}
 use Rattle.theorems.specs.Step.{Step, next, by-reached}
 use Rattle.theorems.specs.Tally.{one, count-sum, sum-eq, sum-add, sum-cut}
-use Rattle.theorems.specs.Formed.{formed, layout}
+use Rattle.theorems.specs.Setup.{good-setup}
+use Rattle.theorems.specs.Formed.{formed}
 use Rattle.theorems.specs.WellFormedKept.{reached-well-formed}
 
 -- how many pairs of a transaction and a partition are in state n
@@ -125,7 +126,7 @@ module _ (σ : Store) (r : Reached σ) where
       × (touches σ (σ (KeySet t)) p ≡ false → σ (State t p) ≡ 0)
   one-state t p l m =
       let F = formed σ (reached-well-formed r) in
-      let L = layout σ (F .setup) in
+      let U = good-setup σ (F .setup) in
       let x = at-most t p (omega (arith, F .places)) (omega arith) in
       let e : ltb 0 (σ (State t p)) ≡ touches σ (σ (KeySet t)) p = rw (lt-ltb t (σ Transactions) l) at (reached-stated r t p) in (
         (λ w. (ltb-true 0 (σ (State t p)) (e ∙ w), x), λ w. sym e ∙ lt-ltb 0 (σ (State t p)) (w .0)),

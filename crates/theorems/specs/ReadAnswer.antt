@@ -1,24 +1,22 @@
 -- What a session's read answers, wherever it looks.
 use Prim.Native.Nat.{ℕ, _<_}
 use mathlib.Core.Bool.{Bool, true, false, cond, _||_, true≢false, false≢true}
-use mathlib.Core.Path.{_≡_, refl, sym, _∙_, ap}
+use mathlib.Core.Path.{_≡_, sym, _∙_, ap}
 use native.Mathlib.Omega.{arith}
 use lib.Dec.{eqb, ltb, leb}
 use borrow.Author.Tests.{eqb-true, leb-false, lt-ltb}
 use Rattle.book.specs.declared.Answer.{Answer}
 use Rattle.book.specs.declared.Answer.the-variants.{Own, Read}
-use Rattle.book.specs.declared.View.{View}
-use Rattle.book.specs.declared.View.the-variants.{Nothing, Seen}
 use Rattle.book.specs.Sizes.{keys}
 use Rattle.book.specs.Cells.{Store, same, Sessions, Status, idle, running, committing, Snapshot, WriteSet, ReadSet, WriteValue, ReadValue, CacheValue, CacheTime, By}
 use Rattle.book.specs.Cases.{by-test, by-eq, unwritten}
 use Rattle.book.specs.Sets.{member, member-none, member-include}
 use Rattle.book.specs.declared.Numbers.{Numbers}
-use Rattle.book.specs.Answers.{triple, viewNumbers, numbers}
+use Rattle.book.specs.Answers.{triple, numbers}
 use Rattle.book.specs.Servers.{holds, partitionOf}
 use Rattle.book.specs.Views.{decidedView}
 use Rattle.book.specs.SessionSteps.{snapshot, start, readAnswer, read, write}
-use Rattle.book.specs.Steps.{ruleOf, refusal, answer}
+use Rattle.book.specs.Steps.{ruleOf, refusal, answer, view-taken}
 use Rattle.book.specs.Reached.{Reached}
 use Rattle.theorems.specs.Step.{Step, next, by-reached}
 use Rattle.theorems.specs.Inv.{Inv}
@@ -58,10 +56,6 @@ module _ (σ : Store) (I : Inv σ) (R : Reads σ) where
       by-test (member (σ (ReadSet s)) k)
       (λ c. rw (w, c) (R s k kb st w c))
       (λ c. rw (w, c, held-decided σ I (σ (Snapshot s)) (I .gossip .snapshot s) k h kb e))
-
-  view-taken : (w : View) → viewNumbers w .refusal ≡ 0
-  view-taken Nothing = refl
-  view-taken (Seen v s) = refl
 
   found-taken : (s k : ℕ) → numbers (found σ s k) .refusal ≡ 0
   found-taken s k = by-test (ltb 0 (σ (CacheTime s k))) (λ c. rw c) (λ c. rw c (view-taken (decidedView σ k (σ (Snapshot s)))))

@@ -17,8 +17,8 @@ use Rattle.book.specs.GossipSteps.{lowestEntry, report, lowestOf, share, stable
 use Rattle.book.specs.Refusals.{unused}
 use Rattle.book.specs.Steps.{ruleOf, installRule, deliverRule, reportRule, shareRule, learnRule}
 use Rattle.book.specs.Reached.{Reached}
-use Rattle.theorems.specs.Inv.{Setup, clockAt}
-use Rattle.theorems.specs.Gossip.{hall-fits, partition-fits}
+use Rattle.theorems.specs.Setup.{Setup, server-small}
+use Rattle.theorems.specs.Inv.{clockAt}
 use Rattle.theorems.specs.Install.{install-hybrid}
 use Rattle.theorems.specs.Sent.{sendsTo-is, sendsTo-i, outgoing-i}
 use Rattle.theorems.specs.Reach.{reached-inv}
@@ -101,7 +101,7 @@ module _ (σ : Store) (U : Setup σ) (L : ℕ) where
   clock-high τ K h p e =
       by-test (hasPrepared τ h p)
       (λ c. let w = any-true placesMax (preparedAt τ h p) c in
-      absurd (K .idle (w .0) p (w .1) (partition-fits σ U h p e) (eqb-true _ _ (and-true (eqb (τ (State (w .0) p)) prepared) _ (w .2) .0))))
+      absurd (K .idle (w .0) p (w .1) (server-small σ U h p e .1) (eqb-true _ _ (and-true (eqb (τ (State (w .0) p)) prepared) _ (w .2) .0))))
       (λ c. rw c (K .high h p e))
 
   -- a channel of the server gets a message
@@ -211,7 +211,7 @@ module _ (σ : Store) (U : Setup σ) (L : ℕ) where
   note-high x τ K A =
       let e = K .fixed .1 (x .a) (x .b) ∙ A .there in
       lowest-ge hallsMax (λ g. holds τ g (x .b)) (λ g. τ (Entry (x .a) (x .b) g)) L
-      (any-i hallsMax (λ g. holds τ g (x .b)) (x .a) (hall-fits σ U (x .a) (x .b) (A .there)) e)
+      (any-i hallsMax (λ g. holds τ g (x .b)) (x .a) (server-small σ U (x .a) (x .b) (A .there) .0) e)
       (λ g l e′. K .full (x .a) (x .b) g (A .there) (sym (K .fixed .1 g (x .b)) ∙ e′))
 
   -- 4. Shares
@@ -238,7 +238,7 @@ module _ (σ : Store) (U : Setup σ) (L : ℕ) where
   share-high x τ K A =
       let w = U .peopled (x .a) (A .from) in
       lowest-ge partitionsMax (λ p. holds τ (x .a) p) (λ p. τ (Note (x .a) p)) L
-      (any-i partitionsMax (λ p. holds τ (x .a) p) (w .0) (partition-fits σ U (x .a) (w .0) (w .1)) (K .fixed .1 (x .a) (w .0) ∙ w .1))
+      (any-i partitionsMax (λ p. holds τ (x .a) p) (w .0) (server-small σ U (x .a) (w .0) (w .1) .1) (K .fixed .1 (x .a) (w .0) ∙ w .1))
       (λ p l e. K .noted (x .a) p (sym (K .fixed .1 (x .a) p) ∙ e))
 
   -- 5. Learns
@@ -251,7 +251,7 @@ module _ (σ : Store) (U : Setup σ) (L : ℕ) where
 
   learn-high : (x : Call) (τ : Store) → Keep5 τ → AtServer 13 x → L ≤ stableAfter τ (x .a) (x .b)
   learn-high x τ K A =
-      let some : 0 < τ Halls = rw (K .fixed .0) (U .halls .0) in
+      let some : 0 < τ Halls = rw (K .fixed .0) (U .hall) in
       let l = lowest-ge hallsMax (λ f. ltb f (τ Halls)) (λ f. τ (Shared (x .a) f)) L
       (any-i hallsMax (λ f. ltb f (τ Halls)) 0 (omega arith) (lt-ltb 0 (τ Halls) some))
       (λ f b e. K .told (x .a) f (holds-hall σ (x .a) (x .b) (A .there)) (rw (K .fixed .0) at (ltb-true f (τ Halls) e))) in
@@ -327,7 +327,7 @@ full-round {σ} reached idle empty i d r s l a b c e f =
       idle = idle;
       high = λ h p k.
           let x = lowest-le hallsMax (λ h. ltb h (σ Halls)) (λ h. lowest partitionsMax (λ p. holds σ h p) (λ p. present σ h p)) h
-          (hall-fits σ U h p k) (lt-ltb h (σ Halls) (holds-hall σ h p k)) in
-          le-trans x (lowest-le partitionsMax (λ p. holds σ h p) (λ p. present σ h p) p (partition-fits σ U h p k) k);
+          (server-small σ U h p k .0) (lt-ltb h (σ Halls) (holds-hall σ h p k)) in
+          le-trans x (lowest-le partitionsMax (λ p. holds σ h p) (λ p. present σ h p) p (server-small σ U h p k .1) k);
     })
     empty

@@ -1,7 +1,7 @@
 -- The five groups of a full round can be listed, so the round is no empty word.
-use Prim.Native.Nat.{ℕ, zero, suc, _+_, _≤_, _<_}
+use Prim.Native.Nat.{ℕ, zero, suc, _+_, _<_}
 use mathlib.Core.Bool.{Bool, true, false, cond, _&&_}
-use mathlib.Core.Path.{_≡_, refl, ap, sym, _∙_}
+use mathlib.Core.Path.{_≡_, refl, sym, _∙_}
 use mathlib.Core.List.{List, [], _∷_, _++_}
 use native.Mathlib.Omega.{arith}
 use lib.Dec.{eqb, ltb}
@@ -13,7 +13,7 @@ use Rattle.book.specs.Reached.{Reached}
 use Rattle.theorems.specs.Calls.{Call, call, sameCall, same-call, times, EachOnce}
 use Rattle.theorems.specs.Round.{atServer, inChannel, betweenHalls}
 use Rattle.theorems.specs.Reach.{reached-inv}
-use Rattle.theorems.specs.Gossip.{hall-fits, partition-fits}
+use Rattle.theorems.specs.Setup.{server-small}
 
 -- f's lists for n - 1, .. 1, 0, one after another
 unfoldable upTo : ℕ → (ℕ → List Call) → List Call
@@ -112,7 +112,7 @@ module _ {σ : Store} (r : Reached σ) where
       let v = and-true (holds σ (x .a) (x .b)) _ (w .1) in
       let U = reached-inv r .setup in
       let z = eqb-true (x .c) 0 (v .1) in
-      (sym (eqb-true _ _ (w .0)), hall-fits σ U (x .a) (x .b) (v .0), partition-fits σ U (x .a) (x .b) (v .0), omega arith)
+      (sym (eqb-true _ _ (w .0)), server-small σ U (x .a) (x .b) (v .0) .0, server-small σ U (x .a) (x .b) (v .0) .1, omega arith)
 
   in-channels : Boxed (inChannel σ) 10
   in-channels x e =
@@ -120,7 +120,7 @@ module _ {σ : Store} (r : Reached σ) where
       let v = and-true (holds σ (x .b) (x .a)) _ (w .1) in
       let u = and-true (holds σ (x .c) (x .a)) _ (v .1) in
       let U = reached-inv r .setup in
-      (sym (eqb-true _ _ (w .0)), partition-fits σ U (x .b) (x .a) (v .0), hall-fits σ U (x .b) (x .a) (v .0), hall-fits σ U (x .c) (x .a) (u .0))
+      (sym (eqb-true _ _ (w .0)), server-small σ U (x .b) (x .a) (v .0) .1, server-small σ U (x .b) (x .a) (v .0) .0, server-small σ U (x .c) (x .a) (u .0) .0)
 
   between : Boxed (betweenHalls σ) 12
   between x e =

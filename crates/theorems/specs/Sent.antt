@@ -14,7 +14,8 @@ use Rattle.book.specs.Sets.{member, setOf, member-setOf}
 use Rattle.book.specs.Servers.{holds, partitionOf, writer}
 use Rattle.book.specs.ReplicationSteps.{versionClock, installs, isQuiet, sendsTo, outgoing, slotOf, nextSlot, install}
 use Rattle.theorems.specs.Inv.{clockAt, setAt, Channels, Holding, Writes, Inv}
-use Rattle.theorems.specs.Gossip.{hall-fits, grow-gossip}
+use Rattle.theorems.specs.Setup.{server-small}
+use Rattle.theorems.specs.Gossip.{grow-gossip}
 use Rattle.theorems.specs.Clocks.{state-stays}
 use Rattle.theorems.specs.Install.{installs-is, has-place, clock-grows, install-grown, install-clocks, install-states}
 
@@ -44,7 +45,7 @@ module _ (σ : Store) (I : Inv σ) (h p : ℕ) (room : (g : ℕ) → g < hallsMa
   has-room : (g q f : ℕ) → outgoing σ h p g q f ≡ true → σ (Waiting g q f) < slots
   has-room g q f e =
       let o = outgoing-is σ h p g q f e in
-      rw (← o .0, ← o .1) (room g (hall-fits σ (I .setup) g p (sendsTo-is σ h p g (o .2) .1)) (o .2))
+      rw (← o .0, ← o .1) (room g (server-small σ (I .setup) g p (sendsTo-is σ h p g (o .2) .1) .0) (o .2))
 
   -- a message that waited is where it was
   old-place : (g q f i : ℕ) → i < σ (Waiting g q f) → (outgoing σ h p g q f && eqb (nextSlot σ g q f) (slotOf σ g q f i)) ≡ false

@@ -18,7 +18,7 @@ use Rattle.book.specs.Views.{mergeAll, version, decided, wroteBy, decidedView, 
 use Rattle.book.specs.Steps.{ruleOf, refusal, answer}
 use Rattle.book.specs.Reached.{Reached}
 use Rattle.theorems.specs.Inv.{Inv, Below}
-use Rattle.theorems.specs.Gossip.{partition-fits}
+use Rattle.theorems.specs.Setup.{server-small}
 use Rattle.theorems.specs.Writer.{writer-holds}
 use Rattle.theorems.specs.Reach.{reached-inv}
 
@@ -43,7 +43,7 @@ decided-held : (σ : Store) → Inv σ → (S : ℕ) → Below σ S → (t p h :
     → 0 < σ (CommitTime t) → σ (CommitTime t) ≤ S → holds σ h p ≡ true → σ (Held h p t) ≡ 1
 decided-held σ I S B t p h pb some d le k =
     let kw = writer-holds σ I t p pb in
-    let p4 = partition-fits σ (I .setup) h p k in
+    let p4 = server-small σ (I .setup) h p k .1 in
     let own = B (writer σ t p) p (writer σ t p) kw kw in
     let n1 : σ (State t p) ≡ asked → ⊥ = λ e. let z = I .states .early t p p4 e in omega arith in
     let n2 : σ (State t p) ≡ prepared → ⊥ = λ e. let z = I .states .decided t p p4 e d in let y = I .clocks .above t p e in omega arith in
@@ -67,7 +67,7 @@ held-decided σ I S B k h kb e =
     rw (lt-ltb 0 (σ (CommitTime t)) (I .holding .done h (partitionOf σ k) t (eqb-true _ _ (a .0)))) (a .1))
     (λ c. let a = and-true (decided σ t) _ c in
     let b = and-true (member (σ (KeySet t)) k) _ (a .1) in
-    let there = mod-lt k (I .setup .partitions .0) in
+    let there = mod-lt k (I .setup .partition) in
     let some = I .writes .written t k kb (b .0) in
     let x = decided-held σ I S B t (partitionOf σ k) h there some (ltb-true _ _ (a .0)) (leb-true _ _ (b .1)) e in
     rw (eq-eqb (σ (Held h (partitionOf σ k) t)) 1 x) (a .1)))

@@ -40,7 +40,7 @@ module _ (σ : Store) (I : Inv σ) where
 
   pub prepare-inv : (t p : ℕ) → t < σ Transactions → p < σ Partitions → σ (State t p) ≡ asked → Inv (prepare σ t p)
   prepare-inv t p tb pb e =
-      let p4 = le-trans pb (I .setup .partitions .1) in
+      let p4 = le-trans pb (I .setup .partitions) in
       record {
         setup = I .setup;
         clocks = prepare-clocks σ I t p tb p4 e;
@@ -53,7 +53,7 @@ module _ (σ : Store) (I : Inv σ) where
 
   pub commit-inv : (t p : ℕ) → t < σ Transactions → p < σ Partitions → σ (State t p) ≡ prepared → 0 < σ (CommitTime t) → Inv (commit σ t p)
   commit-inv t p tb pb e d =
-      let p4 = le-trans pb (I .setup .partitions .1) in
+      let p4 = le-trans pb (I .setup .partitions) in
       record {
         setup = I .setup;
         clocks = commit-clocks σ I t p tb p4 e d;

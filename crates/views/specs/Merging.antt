@@ -1,11 +1,11 @@
 -- The view of a key, one transaction after another.
 use Prim.Native.Nat.{ℕ, _<_}
 use mathlib.Core.Bool.{cond, _&&_}
-use mathlib.Core.Path.{_≡_, refl}
+use mathlib.Core.Path.{_≡_}
 use mathlib.Core.List.{List}
 use lib.ListN.{length}
 use Rattle.book.specs.declared.View.{View}
-use Rattle.book.specs.declared.View.the-variants.{Nothing, Seen}
+use Rattle.book.specs.declared.View.the-variants.{Nothing}
 use Rattle.book.specs.Sizes.{hallsMax, partitionsMax, keys, placesMax}
 use Rattle.book.specs.Cells.{Store}
 use Rattle.book.specs.Servers.{partitionOf}
@@ -16,11 +16,6 @@ use Rattle.room.specs.Layout.{size, store}
 abbrev pub Looks : List ℕ → ℕ → ℕ → ℕ → ℕ → Type 0
 Looks r h p k t =
     (length r ≡ size) × (h < hallsMax) × (p < partitionsMax) × (p ≡ partitionOf (store r) k) × (k < keys) × (t < placesMax)
-
--- nothing adds nothing
-pub merge-nothing : (a : View) → merge a Nothing ≡ a
-merge-nothing Nothing = refl
-merge-nothing (Seen v s) = refl
 
 -- the view so far, with what transaction t adds to it at hall h's server
 abbrev pub joined : Store → ℕ → ℕ → ℕ → ℕ → View → View

@@ -1,6 +1,5 @@
 use borrow.Author.Needs.{needs}
 use borrow.Author.Tests.{lt-leb, ne-eqb, eq-eqb}
-use Rattle.room.specs.Layout.{size}
 use Rattle.script.specs.Run.{not-lent, all-lent}
 use Rattle.script.proofs.run.Statement.{statement}
 use Rattle.script.proofs.run.Tie as tie

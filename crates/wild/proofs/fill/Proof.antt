@@ -1,7 +1,6 @@
 use Prim.Native.Nat.{_≤_, _-_}
 use mathlib.Core.Path.{_≡_}
 use lib.ListN.{length}
-use native.Mathlib.Omega.{arith}
 use borrow.Author.Needs.{needs}
 use Rattle.wild.proofs.fill.Statement.{statement}
 use Rattle.wild.proofs.fill.Tie as tie
