@@ -1,6 +1,6 @@
 -- Cases on a test, and on whether two cells are one.
 use Prim.Native.Nat.{ℕ, _<_}
-use mathlib.Core.Bool.{Bool, true, false, cond, _&&_, false≢true}
+use mathlib.Core.Bool.{Bool, true, false, cond, _&&_, false≢true, and-eq-true-iff}
 use mathlib.Core.Path.{_≡_, refl}
 use native.Mathlib.Omega.{arith}
 use lib.Dec.{eqb}
@@ -20,8 +20,7 @@ pub by-eq : {G : Type 0} (a b : ℕ) → (a ≡ b → eqb a b ≡ true → G) �
 by-eq a b f g = by-test (eqb a b) (λ e. f (eqb-true a b e) e) (λ e. g (eqb-false a b e) e)
 
 pub and-true : (a b : Bool) → (a && b) ≡ true → (a ≡ true) × (b ≡ true)
-and-true true b e = (refl, e)
-and-true false b e = absurd (false≢true e)
+and-true a b = and-eq-true-iff a b .0
 
 pub and-i : (a b : Bool) → a ≡ true → b ≡ true → (a && b) ≡ true
 and-i a b e f = rw (e, f)

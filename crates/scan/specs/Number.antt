@@ -1,6 +1,6 @@
 -- What text reads as what number. "Decimal numbers up to 2^64 - 1, no extra leading zero, each followed by one space or line feed."
 use Prim.Native.Nat.{ℕ, _+_, _-_, _*_, _^_, _≤_}
-use mathlib.Core.Bool.{Bool, true, false, cond, _&&_, _||_, not, false≢true}
+use mathlib.Core.Bool.{Bool, true, false, cond, _&&_, _||_, not, and-eq-true-iff}
 use mathlib.Core.List.{List, [], _∷_}
 use mathlib.Core.Path.{_≡_, refl}
 use native.Mathlib.Numerals.{add-one}
@@ -86,17 +86,13 @@ module _ (most : ℕ) (early : Bool) (from : ℕ) (text : List ℕ) where
   unfolding start
   start-here b e = let h = byte-here text from b e in rw (drop-cons text from 0 (h .0), h .1, add-one from)
 
-pub and-true : (a b : Bool) → (a && b) ≡ true → (a ≡ true) × (b ≡ true)
-and-true true b e = (refl, e)
-and-true false b e = absurd (false≢true e)
-
 pub digit-facts : (b : ℕ) → digit b ≡ true → (48 ≤ b) × (b ≤ 57)
 unfolding digit
-digit-facts b e = let p = and-true (leb 48 b) _ e in (leb-true _ _ (p .0), leb-true _ _ (p .1))
+digit-facts b e = let p = and-eq-true-iff (leb 48 b) _ .0 e in (leb-true _ _ (p .0), leb-true _ _ (p .1))
 
 pub grows-digit : (v b : ℕ) → grows v b ≡ true → digit b ≡ true
 unfolding grows
-grows-digit v b e = and-true (not (eqb v 0)) _ e .1
+grows-digit v b e = and-eq-true-iff (not (eqb v 0)) _ .0 e .1
 
 -- No number is past `most`, and no place past the end: of the text, or any place that covers the text and where the number starts.
 abbrev pub Within : ℕ → ℕ → Number → Type 0

@@ -1,6 +1,6 @@
 -- "Sections in order, each after its count: halls (mask each), sessions (home hall, home partition each)".
 use Prim.Native.Nat.{ℕ, _*_, _≤_}
-use mathlib.Core.Bool.{Bool, true, cond, _&&_}
+use mathlib.Core.Bool.{Bool, true, cond, _&&_, and-eq-true-iff}
 use mathlib.Core.List.{List, []}
 use mathlib.Core.Path.{_≡_}
 use native.Mathlib.Nat.{le-refl, le-trans, mul-le-mul-right}
@@ -12,7 +12,7 @@ use Rattle.scan.specs.declared.Many.{Many}
 use Rattle.scan.specs.declared.Many.the-variants.{Next, Bad as BadMany}
 use Rattle.scan.specs.declared.Section.{Section}
 use Rattle.scan.specs.declared.Section.the-variants.{Whole, Outside, Bad as BadSection}
-use Rattle.scan.specs.Number.{numberAt, and-true, either}
+use Rattle.scan.specs.Number.{numberAt, either}
 use Rattle.scan.specs.Groups.{onNumber, onMany, by-number, manyAt, ManyWithin, next-inside, bad-inside, many-within}
 
 -- the numbers read, and how that ended
@@ -48,7 +48,7 @@ sectionAt most each text at =
 -- room for the most is room for n
 pub among-fits : (most each n m : ℕ) → among most n ≡ true → most * each ≤ m → n * each ≤ m
 unfolding among
-among-fits most each n m e h = le-trans (mul-le-mul-right each (leb-true n most (and-true (leb 1 n) _ e .1))) h
+among-fits most each n m e h = le-trans (mul-le-mul-right each (leb-true n most (and-eq-true-iff (leb 1 n) _ .0 e .1))) h
 
 -- no place is past the end, and where no text is bad all numbers are there, as many as fit
 abbrev pub SectionWithin : ℕ → ℕ → List ℕ → Section → Type 0

@@ -1,6 +1,6 @@
 -- What later steps leave as it was: the view at a snapshot.
 use Prim.Native.Nat.{ℕ, _≤_, _<_}
-use mathlib.Core.Bool.{Bool, true, false, _&&_, false≢true}
+use mathlib.Core.Bool.{true, false, _&&_, false≢true, and-false}
 use mathlib.Core.Path.{_≡_, refl, _∙_}
 use mathlib.Core.Logic.{_⊎_, ⊎-elim}
 use native.Mathlib.Nat.{mod-lt, le-trans, le-refl}
@@ -25,10 +25,6 @@ use Rattle.theorems.specs.Setup.{server-small}
 use Rattle.theorems.specs.Writer.{writer-holds}
 use Rattle.theorems.specs.Reach.{reached-inv, later-inv, later-below}
 use Rattle.theorems.specs.SnapshotRead.{mergeAll-agree, Fetches, snapshot-read}
-
-and-false : (b : Bool) → (b && false) ≡ false
-and-false true = refl
-and-false false = refl
 
 module _ (σ : Store) (I : Inv σ) (S : ℕ) (B : Below σ S) where
   -- a transaction that writes a key and is decided now is decided above S
