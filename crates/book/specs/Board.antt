@@ -8,7 +8,7 @@ use Rattle.book.specs.Folds.{any, all, count, sum, lowest, largest}
 use Rattle.book.specs.Sets.{member, include, setOf}
 use Rattle.book.specs.Answers.{stamp, numbers, viewNumbers}
 use Rattle.book.specs.Servers.{firstFrom, writer}
-use Rattle.book.specs.Views.{merge, mergeAll, decidedView}
+use Rattle.book.specs.Views.{merge, mergeAll, stampOf, decidedView}
 use Rattle.book.specs.Setup.{firstStore, setupRefusal, setupAnswer}
 use Rattle.book.specs.Steps.{ruleOf, refusal, after, answer}
 
@@ -146,6 +146,22 @@ worked =
     -- "the lowest shared note over all halls", not the own hall's alone; and never down
     ∷ first (halls ⟨ Shared 1 0 ≔ 70 ⟩ ⟨ Shared 1 1 ≔ 100 ⟩) 13 1 1 0 gives 70
     ∷ first (halls ⟨ Shared 1 0 ≔ 70 ⟩ ⟨ Shared 1 1 ≔ 100 ⟩ ⟨ Stable 1 1 ≔ 80 ⟩) 13 1 1 0 gives 80
+    -- 14: a session carried to (1, 1) starts at the larger of that server's stable time and its own
+    ∷ first (after (halls ⟨ Snapshot 0 ≔ 100 ⟩ ⟨ Stable 1 1 ≔ 70 ⟩) 14 0 1 1) 2 0 0 0 gives 100
+    ∷ first (after (halls ⟨ Snapshot 0 ≔ 70 ⟩ ⟨ Stable 1 1 ≔ 100 ⟩) 14 0 1 1) 2 0 0 0 gives 100
+    -- "Its stable time, last commit time and cache go along."
+    ∷ after (halls ⟨ LastCommit 0 ≔ 100 ⟩) 14 0 1 1 (LastCommit 0) gives 100
+    ∷ after (halls ⟨ CacheTime 0 7 ≔ 100 ⟩) 14 0 1 1 (CacheTime 0 7) gives 100
+    -- "A transaction keeps the coordinator's hall it ended under, for its stamp and writing halls."
+    ∷ stampOf (after (bothPrepared ⟨ CommitTime 0 ≔ 100 ⟩) 14 0 1 1) 0 .hall gives 0
+    ∷ writer (after (bothPrepared ⟨ CommitTime 0 ≔ 100 ⟩) 14 0 1 1) 0 1 gives 0
+    -- "3 for a server that isn't there, then 6 if the session isn't idle"
+    ∷ refusal (halls ⟨ Status 0 ≔ running ⟩) 14 0 1 0 gives 3
+    ∷ refusal (halls ⟨ Status 0 ≔ running ⟩) 14 0 1 1 gives 6
+    ∷ refusal (halls ⟨ Status 0 ≔ committing ⟩) 14 0 0 0 gives 6
+    ∷ refusal halls 14 0 0 0 gives 0
+    ∷ refusal halls 14 2 0 0 gives 3
+    ∷ refusal halls 15 0 0 0 gives 3
     -- equal times and halls: the larger number wins, whichever comes first
     ∷ viewNumbers (merge (Seen 1 (stamp 100 0 1)) (Seen 2 (stamp 100 0 2))) .second gives 2
     ∷ viewNumbers (merge (Seen 2 (stamp 100 0 2)) (Seen 1 (stamp 100 0 1))) .second gives 2
@@ -154,4 +170,4 @@ worked =
 pub worked-holds : Holds worked
 unfolding worked any all count sum lowest largest member include setOf firstFrom mergeAll setupRefusal setupAnswer ruleOf refusal after answer
 worked-holds =
-    (refl, (refl, (refl, (refl, (refl, (refl, (refl, (refl, (refl, (refl, (refl, (refl, (refl, (refl, (refl, (refl, (refl, (refl, (refl, (refl, (refl, (refl, (refl, (refl, (refl, (refl, (refl, (refl, tt))))))))))))))))))))))))))))
+    (refl, (refl, (refl, (refl, (refl, (refl, (refl, (refl, (refl, (refl, (refl, (refl, (refl, (refl, (refl, (refl, (refl, (refl, (refl, (refl, (refl, (refl, (refl, (refl, (refl, (refl, (refl, (refl, (refl, (refl, (refl, (refl, (refl, (refl, (refl, (refl, (refl, (refl, (refl, (refl, tt))))))))))))))))))))))))))))))))))))))))

@@ -93,3 +93,9 @@ serverRefusal σ h p z = cond (not (holds σ h p && unused z)) 3 0
 -- 12. Share
 abbrev pub shareRefusal : Store → ℕ → ℕ → ℕ → ℕ
 shareRefusal σ f to z = cond (not (ltb f (σ Halls) && (ltb to (σ Halls) && unused z))) 3 0
+
+-- 14. Move. "3 for a server that isn't there, then 6 if the session isn't idle"
+abbrev pub moveRefusal : Store → ℕ → ℕ → ℕ → ℕ
+moveRefusal σ s h p =
+    cond (not (sessionThere σ s && holds σ h p)) 3
+    (cond (not (eqb (σ (Status s)) idle)) 6 0)

@@ -1,11 +1,11 @@
--- Steps 2 to 5: start, read, write, end.
+-- Steps 2 to 5 and 14: start, read, write, end, move.
 use Prim.Native.Nat.{ℕ, suc, _-_, max}
 use mathlib.Core.Bool.{Bool, cond, _&&_, not}
 use lib.Dec.{eqb, ltb, leb}
 use Rattle.book.specs.declared.Answer.{Answer}
 use Rattle.book.specs.declared.Answer.the-variants.{Answered, Own, Read}
 use Rattle.book.specs.Sizes.{keys, partitionsMax}
-use Rattle.book.specs.Cells.{Store, _⟨_≔_⟩, each2, Transactions, Reading, Stable, HomeHall, Status, idle, running, committing, Snapshot, WriteSet, ReadSet, WriteValue, ReadValue, CacheValue, CacheTime, By, From, KeySet, Value, State, asked}
+use Rattle.book.specs.Cells.{Store, _⟨_≔_⟩, each2, Transactions, Reading, Stable, HomeHall, HomePartition, Status, idle, running, committing, Snapshot, WriteSet, ReadSet, WriteValue, ReadValue, CacheValue, CacheTime, By, From, KeySet, Value, State, asked}
 use Rattle.book.specs.Folds.{any, count}
 use Rattle.book.specs.Sets.{member, include}
 use Rattle.book.specs.Answers.{numbers}
@@ -83,3 +83,8 @@ endAnswer σ s =
     cond (hasWrites σ s)
     (Answered (numberOf (σ Transactions)) (count partitionsMax (touches σ (σ (WriteSet s)))))
     (Answered 0 0)
+
+-- 14. Move (session, hall, partition). "gives an idle session a new home server. Its stable time, last commit time and cache go along." A
+-- transaction has its own From, so it "keeps the coordinator's hall it ended under".
+abbrev pub move : Store → ℕ → ℕ → ℕ → Store
+move σ s h p = σ ⟨ HomeHall s ≔ h ⟩ ⟨ HomePartition s ≔ p ⟩

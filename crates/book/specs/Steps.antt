@@ -1,4 +1,4 @@
--- "The thirteen steps (code, three numbers; unused numbers are 0; two answers, 0 where not named)", for any four numbers.
+-- The page's thirteen steps and "New step 14": "(code, three numbers; unused numbers are 0; two answers, 0 where not named)", for any four numbers.
 use Prim.Native.Nat.{ℕ}
 use mathlib.Core.Bool.{Bool, true, false, cond}
 use mathlib.Core.Path.{_≡_, refl}
@@ -14,11 +14,11 @@ use Rattle.book.specs.Sets.{member}
 use Rattle.book.specs.Answers.{triple, viewNumbers, numbers}
 use Rattle.book.specs.Servers.{placeOf}
 use Rattle.book.specs.Views.{heldView}
-use Rattle.book.specs.SessionSteps.{start, startAnswer, read, readAnswer, write, hasWrites, end, endAnswer}
+use Rattle.book.specs.SessionSteps.{start, startAnswer, read, readAnswer, write, hasWrites, end, endAnswer, move}
 use Rattle.book.specs.CommitSteps.{tick, proposal, prepare, decision, decide, commitment, commit}
 use Rattle.book.specs.ReplicationSteps.{versionClock, install, numberInstalled, clockCarried, deliver, numberCarried}
 use Rattle.book.specs.GossipSteps.{lowestEntry, report, lowestOf, share, stableAfter, learn}
-use Rattle.book.specs.Refusals.{tickRefusal, startRefusal, readRefusal, writeRefusal, endRefusal, prepareRefusal, decideRefusal, commitRefusal, installRefusal, deliverRefusal, serverRefusal, shareRefusal}
+use Rattle.book.specs.Refusals.{tickRefusal, startRefusal, readRefusal, writeRefusal, endRefusal, prepareRefusal, decideRefusal, commitRefusal, installRefusal, deliverRefusal, serverRefusal, shareRefusal, moveRefusal}
 
 -- What a step comes to: its ladder's number, and, where that is 0, the store after it and its answer.
 pub record Rule : Type 0 where
@@ -70,6 +70,9 @@ shareRule σ f to z = rule (shareRefusal σ f to z) (share σ f to) (Answered (l
 abbrev pub learnRule : Store → ℕ → ℕ → ℕ → Rule
 learnRule σ h p z = rule (serverRefusal σ h p z) (learn σ h p) (Answered (stableAfter σ h p) 0)
 
+abbrev pub moveRule : Store → ℕ → ℕ → ℕ → Rule
+moveRule σ s h p = rule (moveRefusal σ s h p) (move σ s h p) (Answered 0 0)
+
 -- 3: "unknown code"
 abbrev pub noRule : Store → Rule
 noRule σ = rule 3 σ (Answered 0 0)
@@ -89,7 +92,8 @@ ruleOf σ code a b c =
     (cond (eqb code 11) (reportRule σ a b c)
     (cond (eqb code 12) (shareRule σ a b c)
     (cond (eqb code 13) (learnRule σ a b c)
-    (noRule σ)))))))))))))
+    (cond (eqb code 14) (moveRule σ a b c)
+    (noRule σ))))))))))))))
 
 -- the number given, 0 where the step is taken
 unfoldable pub refusal : Store → ℕ → ℕ → ℕ → ℕ → ℕ
@@ -111,9 +115,10 @@ choose G false f g = g
 pub by-code : (G : Rule → Type 0) (σ : Store) (code a b c : ℕ)
     → G (tickRule σ a b c) → G (startRule σ a b c) → G (readRule σ a b c) → G (writeRule σ a b c) → G (endRule σ a b c)
     → G (prepareRule σ a b c) → G (decideRule σ a b c) → G (commitRule σ a b c) → G (installRule σ a b c) → G (deliverRule σ a b c)
-    → G (reportRule σ a b c) → G (shareRule σ a b c) → G (learnRule σ a b c) → G (noRule σ) → G (ruleOf σ code a b c)
+    → G (reportRule σ a b c) → G (shareRule σ a b c) → G (learnRule σ a b c) → G (moveRule σ a b c) → G (noRule σ)
+    → G (ruleOf σ code a b c)
 unfolding ruleOf
-by-code G σ code a b c g1 g2 g3 g4 g5 g6 g7 g8 g9 g10 g11 g12 g13 g =
+by-code G σ code a b c g1 g2 g3 g4 g5 g6 g7 g8 g9 g10 g11 g12 g13 g14 g =
     choose G (eqb code 1) g1
     (choose G (eqb code 2) g2
     (choose G (eqb code 3) g3
@@ -126,7 +131,8 @@ by-code G σ code a b c g1 g2 g3 g4 g5 g6 g7 g8 g9 g10 g11 g12 g13 g =
     (choose G (eqb code 10) g10
     (choose G (eqb code 11) g11
     (choose G (eqb code 12) g12
-    (choose G (eqb code 13) g13 g))))))))))))
+    (choose G (eqb code 13) g13
+    (choose G (eqb code 14) g14 g)))))))))))))
 
 -- a step that is turned away leaves the store as it was and answers zeros
 pub refused-unchanged : (σ : Store) (code a b c : ℕ) → (refusal σ code a b c ≡ 0 → ⊥)
@@ -161,5 +167,5 @@ unfolding answer
 answer-refusal σ code a b c =
     by-eq (refusal σ code a b c) 0
     (λ q e. rw (e, q)
-    (by-code Taken σ code a b c refl refl (read-taken σ a b c) refl (end-taken σ a b c) refl refl refl refl refl refl refl refl refl))
+    (by-code Taken σ code a b c refl refl (read-taken σ a b c) refl (end-taken σ a b c) refl refl refl refl refl refl refl refl refl refl))
     (λ q e. rw e)
