@@ -14,14 +14,14 @@ use Rattle.book.specs.Sets.{member, include-lt}
 use Rattle.book.specs.Servers.{holds, holds-hall, writer}
 use Rattle.book.specs.WellFormed.{timeBound}
 use Rattle.book.specs.Answers.{numbers}
-use Rattle.book.specs.SessionSteps.{snapshot, start, read, write, ask, readAnswer, touches}
+use Rattle.book.specs.SessionSteps.{snapshot, start, read, write, ask, readAnswer, touches, move}
 use Rattle.book.specs.CommitSteps.{tick, proposal, prepare, decision, decide, commitment, commit}
 use Rattle.book.specs.ReplicationSteps.{preparedAt, hasPrepared, versionClock, hybridAfter, installs, sendsTo, outgoing, nextSlot, slotOf, install, deliver}
 use Rattle.book.specs.GossipSteps.{lowestEntry, report, lowestOf, share, lowestShared, stableAfter, learn}
 use Rattle.book.specs.Steps.{after}
 use Rattle.theorems.specs.Step.{Step, next}
 use Rattle.theorems.specs.Tally.{prepared-le, prepared-lt}
-use Rattle.theorems.specs.Setup.{Setup, good-setup, server-small}
+use Rattle.theorems.specs.Setup.{Setup, good-setup, server-small, move-good}
 use Rattle.theorems.specs.Formed.{All1, All2, All3, Times, Formed, writer-small}
 
 -- what holds of both holds of the one that is chosen
@@ -274,6 +274,9 @@ module _ (σ : Store) (F : Formed σ) where
       let stable = put2 (_≤ b) σ Stable h p (stableAfter σ h p) (omega arith) (T .stable) in
       search
 
+  move-formed : (s h p : ℕ) → holds σ h p ≡ true → Formed (move σ s h p)
+  move-formed s h p e = let setup = move-good σ (F .setup) s h p e in search
+
 pub step-formed : (σ : Store) → Formed σ → (s : Step σ) → Formed (next σ s)
 step-formed σ F (Step.ticks h p x a b c) = tick-formed σ F h p x b
 step-formed σ F (Step.starts s a b) = start-formed σ F s a
@@ -289,3 +292,4 @@ step-formed σ F (Step.delivers p f g a b c d) = deliver-formed σ F p f g a b
 step-formed σ F (Step.reports h p a) = report-formed σ F h p a
 step-formed σ F (Step.shares f to a b) = share-formed σ F f to a
 step-formed σ F (Step.learns h p a) = learn-formed σ F h p a
+step-formed σ F (Step.moves s h p a b c) = move-formed σ F s h p b

@@ -23,7 +23,7 @@ use Rattle.theorems.specs.Step.{Step, next, by-later}
 use Rattle.theorems.specs.Inv.{Inv, Below}
 use Rattle.theorems.specs.Setup.{server-small}
 use Rattle.theorems.specs.Writer.{writer-holds}
-use Rattle.theorems.specs.Reach.{reached-inv, later-inv, later-below}
+use Rattle.theorems.specs.Reach.{reached-later, reached-inv, later-inv, later-below}
 use Rattle.theorems.specs.SnapshotRead.{mergeAll-agree, Fetches, snapshot-read}
 
 module _ (σ : Store) (I : Inv σ) (S : ℕ) (B : Below σ S) where
@@ -89,6 +89,7 @@ module _ (σ : Store) (I : Inv σ) (S : ℕ) (B : Below σ S) where
   step-view (Step.reports h p a) k kb = refl
   step-view (Step.shares f to a b) k kb = refl
   step-view (Step.learns h p a) k kb = refl
+  step-view (Step.moves s h p a b c) k kb = refl
 
 -- Later steps never alter the view at a session's snapshot of all that is decided. (Running or not.)
 pub later-never-alters : {σ τ : Store} → Reached σ → Later σ τ → (s k : ℕ) → k < keys
@@ -98,10 +99,6 @@ later-never-alters {σ} r w s k kb =
     let S = σ (Snapshot s) in
     by-later (λ τ. decidedView τ k S ≡ decidedView σ k S) refl
     (λ τ v e x. step-view τ (later-inv I v) S (later-below I S (I .gossip .snapshot s) v) x k kb ∙ e) w
-
-reached-later : {σ τ : Store} → Reached σ → Later σ τ → Reached τ
-reached-later r Later.none = r
-reached-later r (Later.more w code a b c) = Reached.onward (reached-later r w) code a b c
 
 -- However much later, as long as the session has that snapshot still, a read at any hall that holds the key answers what it would have answered.
 pub later-read : {σ τ : Store} → Reached σ → Later σ τ → (s k h : ℕ) → Fetches τ s k h → τ (Snapshot s) ≡ σ (Snapshot s)
@@ -125,8 +122,9 @@ step-snapshot σ (Step.delivers p f g a b c d) s = le-refl _
 step-snapshot σ (Step.reports h p a) s = le-refl _
 step-snapshot σ (Step.shares f to a b) s = le-refl _
 step-snapshot σ (Step.learns h p a) s = le-refl _
+step-snapshot σ (Step.moves s′ h p a b c) s = le-refl _
 
--- A session's snapshot never goes down, from any store.
+-- A session's snapshot never goes down, from any store and by any steps, moves among them.
 pub snapshots-rise : {σ τ : Store} → Later σ τ → (s : ℕ) → σ (Snapshot s) ≤ τ (Snapshot s)
 snapshots-rise {σ} w s =
     by-later (λ τ. σ (Snapshot s) ≤ τ (Snapshot s)) (le-refl _) (λ τ v l x. le-trans l (step-snapshot τ x s)) w

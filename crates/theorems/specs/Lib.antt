@@ -23,6 +23,7 @@ pub mod LaterView
 pub mod ReadAnswer
 pub mod OwnWrites
 pub mod ReadYourWrites
+pub mod Carried
 pub mod Calls
 pub mod Round
 pub mod RoundLists

@@ -324,6 +324,7 @@ module _ (σ : Store) (I : Inv σ) (O : Own σ) where
   step-own (Step.reports h p a) = O
   step-own (Step.shares f to a b) = O
   step-own (Step.learns h p a) = O
+  step-own (Step.moves s h p a b c) = O
 
 pub reached-own : {σ : Store} → Reached σ → Own σ
 reached-own =

@@ -80,6 +80,7 @@ step-stated σ I (Step.delivers p f g a b c d) = I
 step-stated σ I (Step.reports h p a) = I
 step-stated σ I (Step.shares f to a b) = I
 step-stated σ I (Step.learns h p a) = I
+step-stated σ I (Step.moves s h p a b c) = I
 
 reached-stated : {σ : Store} → Reached σ → Stated σ
 reached-stated = by-reached Stated (λ masks homes e t p. rw (le-ltb t 0 (omega arith))) (λ σ r. step-stated σ)

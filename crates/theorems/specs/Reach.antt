@@ -4,6 +4,7 @@ use native.Mathlib.Nat.{le-trans}
 use Rattle.book.specs.Cells.{Store}
 use Rattle.book.specs.Reached.{Reached, Later}
 use Rattle.theorems.specs.Step.{Step, next, by-reached, by-later}
+use Rattle.theorems.specs.Setup.{move-setup}
 use Rattle.theorems.specs.Inv.{Inv, Below}
 use Rattle.theorems.specs.Gossip.{report-gossip, share-gossip, learn-gossip, start-gossip}
 use Rattle.theorems.specs.Install.{install-grown}
@@ -59,6 +60,19 @@ step-inv σ I (Step.learns h p a) = record {
   gossip = learn-gossip σ I h p;
   writes = I .writes;
 }
+step-inv σ I (Step.moves s h p a b c) = record {
+  setup = move-setup σ (I .setup) s h p b;
+  clocks = I .clocks;
+  states = I .states;
+  channels = I .channels;
+  holding = I .holding;
+  gossip = I .gossip;
+  writes = I .writes;
+}
+
+pub reached-later : {σ τ : Store} → Reached σ → Later σ τ → Reached τ
+reached-later r Later.none = r
+reached-later r (Later.more w code a b c) = Reached.onward (reached-later r w) code a b c
 
 pub reached-inv : {σ : Store} → Reached σ → Inv σ
 reached-inv = by-reached Inv first-inv (λ σ r I s. step-inv σ I s)
@@ -82,6 +96,7 @@ step-below σ I (Step.delivers p f g a b c d) S B = λ h′ p′ g′ e e′. le
 step-below σ I (Step.reports h p a) S B = B
 step-below σ I (Step.shares f to a b) S B = B
 step-below σ I (Step.learns h p a) S B = B
+step-below σ I (Step.moves s h p a b c) S B = B
 
 pub later-below : {σ τ : Store} → Inv σ → (S : ℕ) → Below σ S → Later σ τ → Below τ S
 later-below I S B = by-later (λ τ. Below τ S) B (λ τ w C s. step-below τ (later-inv I w) s S C)

@@ -112,6 +112,7 @@ module _ (σ : Store) (I : Inv σ) (R : Reads σ) where
   step-reads (Step.reports h p a) = R
   step-reads (Step.shares f to a b) = R
   step-reads (Step.learns h p a) = R
+  step-reads (Step.moves s h p a b c) = R
 
 reached-reads : {σ : Store} → Reached σ → Reads σ
 reached-reads = by-reached Reads (λ masks homes z s k kb st w i. absurd (omega arith)) (λ σ r R x. step-reads σ (reached-inv r) R x)
@@ -158,6 +159,7 @@ step-cached σ (Step.delivers p f g a b c d) C = C
 step-cached σ (Step.reports h p a) C = C
 step-cached σ (Step.shares f to a b) C = C
 step-cached σ (Step.learns h p a) C = C
+step-cached σ (Step.moves s h p a b c) C = C
 
 pub reached-cached : {σ : Store} → Reached σ → Cached σ
 reached-cached = by-reached Cached (λ masks homes z s k st i. absurd (omega arith)) (λ σ r C x. step-cached σ x C)

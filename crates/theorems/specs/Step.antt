@@ -13,12 +13,12 @@ use Rattle.book.specs.Cases.{by-eq, and-true, passed}
 use Rattle.book.specs.Folds.{any, all-at, any-false}
 use Rattle.book.specs.Servers.{holds, partitionOf, placeOf}
 use Rattle.book.specs.Views.{decided}
-use Rattle.book.specs.SessionSteps.{start, read, write, hasWrites, ask}
+use Rattle.book.specs.SessionSteps.{start, read, write, hasWrites, ask, move}
 use Rattle.book.specs.CommitSteps.{tick, prepare, decide, commit}
 use Rattle.book.specs.ReplicationSteps.{sendsTo, install, deliver}
 use Rattle.book.specs.GossipSteps.{report, share, learn}
 use Rattle.book.specs.Refusals.{sessionThere, transactionThere, unused, allPrepared, serverRefusal}
-use Rattle.book.specs.Steps.{Rule, by-code, refusal, after, refused-unchanged, tickRule, startRule, readRule, writeRule, endRule, prepareRule, decideRule, commitRule, installRule, deliverRule, shareRule}
+use Rattle.book.specs.Steps.{Rule, by-code, refusal, after, refused-unchanged, tickRule, startRule, readRule, writeRule, endRule, prepareRule, decideRule, commitRule, installRule, deliverRule, shareRule, moveRule}
 use Rattle.book.specs.Setup.{setupRefusal, firstStore}
 use Rattle.book.specs.Reached.{Reached, Later}
 
@@ -39,6 +39,7 @@ pub data Step (σ : Store) : Type 0 where
   reports : (h p : ℕ) → holds σ h p ≡ true → Step σ
   shares : (f to : ℕ) → f < σ Halls → to < σ Halls → Step σ
   learns : (h p : ℕ) → holds σ h p ≡ true → Step σ
+  moves : (s h p : ℕ) → s < σ Sessions → holds σ h p ≡ true → σ (Status s) ≡ idle → Step σ
 
 -- the store after it
 abbrev pub next : (σ : Store) → Step σ → Store
@@ -56,6 +57,7 @@ next σ (delivers p f g a b c d) = deliver σ p f g
 next σ (reports h p a) = report σ h p
 next σ (shares f to a b) = share σ f to
 next σ (learns h p a) = learn σ h p
+next σ (moves s h p a b c) = move σ s h p
 
 -- a rule that turns nothing away is a step
 abbrev Takes : Store → Rule → Type 0
@@ -177,6 +179,12 @@ module _ (σ : Store) where
       let b = and-true (ltb f (σ Halls)) _ (a .0) in
       (shares f to (ltb-true _ _ (b .0)) (ltb-true _ _ (and-true (ltb to (σ Halls)) _ (b .1) .0)), refl)
 
+  move-taken : (s h p : ℕ) → Takes σ (moveRule σ s h p)
+  move-taken s h p e =
+      let a = asked-for (sessionThere σ s && holds σ h p) 3 _ (omega arith) e in
+      let b = asked-for (eqb (σ (Status s)) idle) 6 _ (omega arith) (a .1) in
+      (moves s h p (session-there s _ (a .0)) (and-true (sessionThere σ s) _ (a .0) .1) (eqb-true _ _ (b .0)), refl)
+
   -- four numbers that are not turned away are a step, and the store after them is the store after it
   pub taken : (code a b c : ℕ) → refusal σ code a b c ≡ 0 → (s : Step σ) × (after σ code a b c ≡ next σ s)
   unfolding refusal after
@@ -185,6 +193,7 @@ module _ (σ : Store) where
       (tick-taken a b c) (start-taken a b c) (read-taken a b c) (write-taken a b c) (end-taken a b c)
       (prepare-taken a b c) (decide-taken a b c) (commit-taken a b c) (install-taken a b c) (deliver-taken a b c)
       (λ r. (reports a b (server-there a b c r), refl)) (share-taken a b c) (λ r. (learns a b (server-there a b c r), refl))
+      (move-taken a b c)
       (λ r. absurd (omega arith)) e in
       (w .0, rw (eq-eqb _ _ e) (w .1))
 
