@@ -183,7 +183,7 @@ fn good_sessions(room: &[u64]) -> bool
     1 <= sessions && (sessions <= 16 && homes_ok(room))
 }
 
-// Whether the numbers of a setup keep its rules.
+// Whether halls and sessions keep the rules of setup.
 pub fn good_setup(room: &[u64]) -> bool
     requires { ⌜ length (now room) ≡ size ⌝ }
     ensures { λ r. ⌜ r ≡ goodSetup (store (now (room .entry))) ⌝ }

@@ -4,7 +4,7 @@ ghost use Prim.Native.Nat.{_<_};
 ghost use mathlib.Core.Bool.{cond, _&&_, _||_};
 ghost use lib.ListN.{length};
 ghost use lib.Dec.{eqb, ltb, leb};
-ghost use Rattle.book.specs.Refusals.{tickRefusal, startRefusal, readRefusal, writeRefusal, endRefusal, prepareRefusal, decideRefusal, commitRefusal, installRefusal, deliverRefusal, serverRefusal, shareRefusal, sessionThere, transactionThere, unused, allPrepared};
+ghost use Rattle.book.specs.Refusals.{tickRefusal, startRefusal, readRefusal, writeRefusal, endRefusal, prepareRefusal, decideRefusal, commitRefusal, installRefusal, deliverRefusal, serverRefusal, shareRefusal, moveRefusal, sessionThere, transactionThere, unused, allPrepared};
 ghost use Rattle.book.specs.Sizes.{hallsMax, partitionsMax, keys, placesMax, slots};
 ghost use Rattle.book.specs.Cells.{Partitions, State, prepared, Waiting};
 ghost use Rattle.book.specs.Folds.{any};
@@ -217,6 +217,17 @@ pub fn share(room: &[u64], f: u64, to: u64, z: u64) -> u64
     when(!both(f < halls, both(to < halls, z == 0)), 3, 0)
 }
 
+pub fn move_session(room: &[u64], s: u64, h: u64, p: u64) -> u64
+    requires { ⌜ (length (now room) ≡ size) × Sized (store (now room)) ⌝ }
+    ensures { λ r. ⌜ r ≡ moveRefusal (store (now (room .entry))) s h p ⌝ }
+{
+    if !session_there(room, s) {
+        return 3;
+    }
+    let status = room::get(room, STATUS, s as usize, 0, 0, 0);
+    when(!server_there(room, h, p), 3, when(status != 0, 6, 0))
+}
+
 // a session, a key, and a hall that holds it
 fn key_there(room: &[u64], s: u64, k: u64, h: u64) -> bool
     requires { ⌜ (length (now room) ≡ size) × Sized (store (now room)) ⌝ }
@@ -297,6 +308,7 @@ pub fn refusal(room: &[u64], code: u64, a: u64, b: u64, c: u64) -> u64
         11 => server(room, a, b, c),
         12 => share(room, a, b, c),
         13 => server(room, a, b, c),
+        14 => move_session(room, a, b, c),
         _ => 3,
     }
 }

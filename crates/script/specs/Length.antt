@@ -42,7 +42,7 @@ step-small σ code a b c = rw (answer-refusal σ code a b c)
     (by-code (λ (x : Rule). x .refusal < 100) σ code a b c
     (search (rung, needs)) (search (rung, needs)) (search (rung, needs)) (search (rung, needs)) (search (rung, needs))
     (search (rung, needs)) (search (rung, needs)) (search (rung, needs)) (search (rung, needs)) (search (rung, needs))
-    (search (rung, needs)) (search (rung, needs)) (search (rung, needs)) (search (rung, needs)))
+    (search (rung, needs)) (search (rung, needs)) (search (rung, needs)) (search (rung, needs)) (search (rung, needs)))
 
 setup-small : (masks homes : List ℕ) → numbers (setupAnswer masks homes) .refusal < 100
 unfolding setupAnswer setupRefusal

@@ -1,4 +1,4 @@
-// Steps 2 to 5, for numbers that are not turned away.
+// Steps 2 to 5 and 14, for numbers that are not turned away.
 ghost use mathlib.Core.Path.{_≡_};
 ghost use mathlib.Core.Bool.{false, cond, _&&_};
 ghost use Prim.Native.Nat.{_+_, _-_, _≤_, _<_};
@@ -9,7 +9,7 @@ ghost use Rattle.book.specs.Cells.{cell, _⟨_≔_⟩, Transactions};
 ghost use Rattle.book.specs.Folds.{count};
 ghost use Rattle.book.specs.Sets.{member, include};
 ghost use Rattle.book.specs.Servers.{partitionOf};
-ghost use Rattle.book.specs.SessionSteps.{start as startStore, startAnswer, read as readStore, readAnswer, write as writeStore, hasWrites, touches as touched, end as endStore, endAnswer};
+ghost use Rattle.book.specs.SessionSteps.{start as startStore, startAnswer, read as readStore, readAnswer, write as writeStore, hasWrites, touches as touched, end as endStore, endAnswer, move as moveStore};
 ghost use Rattle.room.specs.Layout.{size, Within, store};
 ghost use Rattle.views.specs.Partitions.{Parted};
 ghost use Rattle.sessions.specs.Starting.{Homed, begun, cleanedAt, cleaned};
@@ -252,4 +252,14 @@ pub fn end(room: &mut [u64], s: usize) -> Answer
     copy_values(room, s, t);
     let n = ask_states(room, t, m);
     Answer::Answered(views::number_of(t).0, n)
+}
+
+// 14. Move. "Its stable time, last commit time and cache go along."
+pub fn move_session(room: &mut [u64], s: usize, h: u64, p: u64) -> Answer
+    requires { ⌜ (length (now room) ≡ size) × (s < sessionsMax) ⌝ }
+    ensures { λ r. ⌜ (length (now (room .exit)) ≡ size) × (r ≡ Answer.Answered 0 0) × (store (now (room .exit)) ≡ moveStore (store (now (room .entry))) s h p) ⌝ }
+{
+    room::put(room, HOME_HALL, s, 0, 0, 0, h);
+    room::put(room, HOME_PARTITION, s, 0, 0, 0, p);
+    Answer::Answered(0, 0)
 }

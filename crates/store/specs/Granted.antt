@@ -10,7 +10,7 @@ use Rattle.book.specs.Cells.{Store, Halls, Partitions, Sessions, Transactions, 
 use Rattle.book.specs.Cases.{and-true, passed}
 use Rattle.book.specs.Servers.{holds, partitionOf, placeOf}
 use Rattle.book.specs.SessionSteps.{hasWrites}
-use Rattle.book.specs.Refusals.{sessionThere, transactionThere, unused, tickRefusal, startRefusal, readRefusal, writeRefusal, endRefusal, prepareRefusal, decideRefusal, commitRefusal, deliverRefusal, shareRefusal}
+use Rattle.book.specs.Refusals.{sessionThere, transactionThere, unused, tickRefusal, startRefusal, readRefusal, writeRefusal, endRefusal, prepareRefusal, decideRefusal, commitRefusal, deliverRefusal, shareRefusal, moveRefusal}
 use Rattle.book.specs.WellFormed.{wellFormed, timeBound}
 use Rattle.theorems.specs.Step.{asked-for}
 use Rattle.theorems.specs.Tally.{prepared-most}
@@ -160,3 +160,6 @@ module _ (σ : Store) (w : wellFormed σ ≡ true) where
       let y = server g p (d .0) in
       let n = eqb-false (σ (Waiting g p f)) 0 (passed (eqb (σ (Waiting g p f)) 0) 11 _ (omega arith) (a .1) .0) in
       (x .1, x .0, y .0, facts .first g p f (y .0) (x .1) (x .0), omega arith)
+
+  pub move-in : (s h p : ℕ) → moveRefusal σ s h p ≡ 0 → s < sessionsMax
+  move-in s h p e = session s _ _ e

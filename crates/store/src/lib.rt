@@ -29,6 +29,7 @@ fn act(room: &mut [u64], code: u64, a: u64, b: u64, c: u64) -> Answer
         11 => gossip::report(room, a as usize, b as usize),
         12 => gossip::share(room, a as usize, b as usize),
         13 => gossip::learn(room, a as usize, b as usize),
+        14 => sessions::move_session(room, a as usize, b, c),
         _ => Answer::Refused(3),
     }
 }

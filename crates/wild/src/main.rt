@@ -45,7 +45,7 @@ fn hundred(room: &mut [u64], seed: u64, m: u64) -> u64
         x = c;
         away = count(
             away,
-            store::step(room, part(code, 15), part(a, m), part(b, m), part(c, m)),
+            store::step(room, part(code, 16), part(a, m), part(b, m), part(c, m)),
         );
     }
     away

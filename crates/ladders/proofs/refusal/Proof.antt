@@ -1,6 +1,6 @@
 use mathlib.Core.Path.{sym}
 use Rattle.room.specs.Layout.{store}
-use Rattle.ladders.specs.Unknown.{unknown, unknown-refusal}
+use Rattle.ladders.specs.Unknown.{unknown}
 use Rattle.book.specs.Steps.{ruleOf, refusal}
 use borrow.Author.Needs.{needs}
 use Rattle.ladders.proofs.refusal.Statement.{statement}
@@ -9,6 +9,7 @@ use Rattle.ladders.proofs.refusal.Tie as tie
 pub refusal-spec : {M : Type 1} → statement M
 unfolding refusal ruleOf
 refusal-spec = tie.close (tie.spec
+    (λ c κs. search needs)
     (λ c κs. search needs)
     (λ c κs. search needs)
     (λ c κs. search needs)
@@ -35,5 +36,5 @@ refusal-spec = tie.close (tie.spec
     (λ c. rw (c .before .match .keys11) (c .server .ensures))
     (λ c. rw (c .before .match .keys12) (c .share .ensures))
     (λ c. rw (c .before .match .keys13) (c .server2 .ensures))
-    (λ c. let s = c .before .before .args in
-    sym (unknown-refusal (store (s .room .now)) (s .code) (s .a) (s .b) (s .c) (unknown (store (s .room .now)) (s .code) (s .a) (s .b) (s .c) (c .match .rest .0 .0 .0 .0 .0 .0 .0 .0 .0 .0 .0 .0 .1) (c .match .rest .0 .0 .0 .0 .0 .0 .0 .0 .0 .0 .0 .1) (c .match .rest .0 .0 .0 .0 .0 .0 .0 .0 .0 .0 .1) (c .match .rest .0 .0 .0 .0 .0 .0 .0 .0 .0 .1) (c .match .rest .0 .0 .0 .0 .0 .0 .0 .0 .1) (c .match .rest .0 .0 .0 .0 .0 .0 .0 .1) (c .match .rest .0 .0 .0 .0 .0 .0 .1) (c .match .rest .0 .0 .0 .0 .0 .1) (c .match .rest .0 .0 .0 .0 .1) (c .match .rest .0 .0 .0 .1) (c .match .rest .0 .0 .1) (c .match .rest .0 .1) (c .match .rest .1)))))
+    (λ c. rw (c .before .match .keys14) (c .move-session .ensures))
+    (λ c. let s = c .before .before .args in sym (unknown (store (s .room .now)) (s .code) (s .a) (s .b) (s .c) (c .match .rest))))

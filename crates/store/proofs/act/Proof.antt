@@ -3,8 +3,8 @@ use mathlib.Core.Path.{_≡_, sym, _∙_}
 use native.Mathlib.Omega.{arith}
 use Rattle.book.specs.Steps.{ruleOf, refusal}
 use Rattle.room.specs.Layout.{store}
-use Rattle.ladders.specs.Unknown.{unknown, unknown-refusal}
-use Rattle.store.specs.Granted.{tick-in, start-in, read-in, write-in, end-in, prepare-in, decide-in, commit-in, server-in, deliver-in, share-in, coordinated-all, timely, channel}
+use Rattle.ladders.specs.Unknown.{unknown}
+use Rattle.store.specs.Granted.{tick-in, start-in, read-in, write-in, end-in, prepare-in, decide-in, commit-in, server-in, deliver-in, share-in, move-in, coordinated-all, timely, channel}
 use borrow.Author.Needs.{needs}
 use Rattle.store.proofs.act.Statement.{statement}
 use Rattle.store.proofs.act.Tie as tie
@@ -25,6 +25,7 @@ act-spec = tie.close (tie.spec
     (λ c κs. let s = c .before .before .before in let σ = store (s .args .room .now) in let w = s .pre .1 in let e = rw (c .before .match .keys11) at (s .pre .2) in let t = server-in σ w (s .args .a) (s .args .b) (s .args .c) _ e in (s .pre .0, t .0, t .1))
     (λ c κs. let s = c .before .before .before in let σ = store (s .args .room .now) in let w = s .pre .1 in let e = rw (c .before .match .keys12) at (s .pre .2) in let t = share-in σ w (s .args .a) (s .args .b) (s .args .c) e in (s .pre .0, t .0, t .1))
     (λ c κs. let s = c .before .before .before in let σ = store (s .args .room .now) in let w = s .pre .1 in let e = rw (c .before .match .keys13) at (s .pre .2) in let t = server-in σ w (s .args .a) (s .args .b) (s .args .c) _ e in (s .pre .0, t .0, t .1))
+    (λ c κs. let s = c .before .before .before in let σ = store (s .args .room .now) in let w = s .pre .1 in let e = rw (c .before .match .keys14) at (s .pre .2) in (s .pre .0, move-in σ w (s .args .a) (s .args .b) (s .args .c) e))
     (λ c. search needs)
     (λ c. rw (c .before .before .before .before .match .keys1) (c .before .before .tick .ensures))
     (λ c. search needs)
@@ -51,4 +52,6 @@ act-spec = tie.close (tie.spec
     (λ c. rw (c .before .before .before .before .match .keys12) (c .before .before .share .ensures))
     (λ c. search needs)
     (λ c. rw (c .before .before .before .before .match .keys13) (c .before .before .learn .ensures))
-    (λ c. let s = c .before .before in let σ = store (s .args .room .now) in let q = unknown-refusal σ (s .args .code) (s .args .a) (s .args .b) (s .args .c) (unknown σ (s .args .code) (s .args .a) (s .args .b) (s .args .c) (c .match .rest .0 .0 .0 .0 .0 .0 .0 .0 .0 .0 .0 .0 .1) (c .match .rest .0 .0 .0 .0 .0 .0 .0 .0 .0 .0 .0 .1) (c .match .rest .0 .0 .0 .0 .0 .0 .0 .0 .0 .0 .1) (c .match .rest .0 .0 .0 .0 .0 .0 .0 .0 .0 .1) (c .match .rest .0 .0 .0 .0 .0 .0 .0 .0 .1) (c .match .rest .0 .0 .0 .0 .0 .0 .0 .1) (c .match .rest .0 .0 .0 .0 .0 .0 .1) (c .match .rest .0 .0 .0 .0 .0 .1) (c .match .rest .0 .0 .0 .0 .1) (c .match .rest .0 .0 .0 .1) (c .match .rest .0 .0 .1) (c .match .rest .0 .1) (c .match .rest .1)) in let z : _≡_ {A = ℕ} 3 0 = sym q ∙ s .pre .2 in absurd (omega arith)))
+    (λ c. search needs)
+    (λ c. rw (c .before .before .before .before .match .keys14) (c .before .before .move-session .ensures))
+    (λ c. let s = c .before .before in let q = unknown (store (s .args .room .now)) (s .args .code) (s .args .a) (s .args .b) (s .args .c) (c .match .rest) in let z : _≡_ {A = ℕ} 3 0 = sym q ∙ s .pre .2 in absurd (omega arith)))
