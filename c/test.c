@@ -68,7 +68,7 @@ static void lay_session(u64 *w, const struct Session *session) {
 
 static void lay_transaction(u64 *w, const struct Transaction *transaction) {
     w[0] = transaction->session;
-    w[1] = store.session[transaction->session].home.hall;
+    w[1] = transaction->hall;
     w[2] = transaction->commit_time;
     lay_entries(&w[3], &w[4], &transaction->writes);
     for (size_t p = 0; p < PARTITIONS; p++) {

@@ -106,6 +106,8 @@ static struct Step ranges(u64 code) {
         return (struct Step){{1, n, m, m}};
     case SHARE:
         return (struct Step){{1, m, m, 1}};
+    case MOVE:
+        return (struct Step){{1, store.sessions, m, n}};
     default: /* tick, install, report, learn */
         return (struct Step){{1, m, n, 1}};
     }
@@ -153,14 +155,6 @@ static bool find_good(u64 code, size_t longest, struct Step *found) {
     return false;
 }
 
-static bool good(u64 code) {
-    struct Step s;
-    bool found = find_good(code, SIZE_MAX, &s);
-    if (found)
-        add(s);
-    return found;
-}
-
 /* Every step of this code that is taken, once each. Answers how many. */
 static size_t each(u64 code) {
     u64 size = range_size(code);
@@ -176,7 +170,7 @@ static size_t each(u64 code) {
 
 static u64 weighted(const unsigned *weights) {
     unsigned sum = 0;
-    for (u64 code = TICK; code <= LEARN; code++)
+    for (u64 code = TICK; code <= LAST_CODE; code++)
         sum += weights[code];
     u64 point = below(sum), code = TICK;
     while (point >= weights[code])
@@ -185,8 +179,8 @@ static u64 weighted(const unsigned *weights) {
 }
 
 /* How often each code is tried: in any run, and where transactions matter most. */
-static const unsigned usual[LEARN + 1] = {0, 8, 14, 14, 14, 10, 14, 10, 12, 9, 14, 5, 6, 5};
-static const unsigned busy[LEARN + 1] = {0, 5, 14, 8, 28, 14, 24, 16, 16, 4, 6, 1, 1, 1};
+static const unsigned usual[LAST_CODE + 1] = {0, 8, 14, 14, 14, 10, 14, 10, 12, 9, 14, 5, 6, 5, 8};
+static const unsigned busy[LAST_CODE + 1] = {0, 5, 14, 8, 28, 14, 24, 16, 16, 4, 6, 1, 1, 1, 8};
 
 /* ---- Setups ---- */
 
@@ -273,33 +267,78 @@ static void catch_up(void) {
                 add_step(TICK, h, p, top);
 }
 
-static void full_round(void) {
+/* A full round but for the learning. */
+static void gossip(void) {
     each(INSTALL);
     each(DELIVER);
     each(REPORT);
     each(SHARE);
+}
+
+static void full_round(void) {
+    gossip();
     each(LEARN);
 }
 
-/* A session starts, reads and ends: what the servers have learned is seen. */
-static void look(void) {
-    struct Step s;
-    if (!find_good(START, SIZE_MAX, &s))
-        return;
-    add(s);
+static u64 any_key(void) { return (key_base + below(key_range)) % KEYS; }
+
+/* A hall with the partition: this one or the next that holds it. */
+static u64 holder(u64 hall, u64 partition) {
+    while (!holds(&store, hall, partition))
+        hall = (hall + 1) % halls;
+    return hall;
+}
+
+/* The session starts, reads what transactions after this one wrote, and mostly ends. */
+static void look_after(u64 session, u64 number) {
+    add_step(START, session, 0, 0);
     for (u64 reads = 2 + below(6); reads > 0; reads--) {
-        u64 key = (key_base + below(key_range)) % KEYS;
-        if (store.requests > 0) {
-            const struct Entries *w = &store.transaction[below(store.requests)].writes;
+        u64 key = any_key();
+        if (store.requests > number) {
+            u64 place = number + below(store.requests - number);
+            const struct Entries *w = &store.transaction[place].writes;
             key = w->list[below(w->count)].key;
         }
-        u64 hall = below(halls);
-        while (!holds(&store, hall, key % store.partitions))
-            hall = (hall + 1) % halls;
-        add_step(READ, s.n[1], key, hall);
+        u64 hall = chance(50) ? store.session[session].home.hall : below(halls);
+        add_step(READ, session, key, holder(hall, key % store.partitions));
     }
     if (chance(70))
-        add_step(END, s.n[1], 0, 0);
+        add_step(END, session, 0, 0);
+}
+
+/* Any idle session does so: what the servers have learned is seen. */
+static void look(u64 number) {
+    struct Step s;
+    if (find_good(START, SIZE_MAX, &s))
+        look_after(s.n[1], number);
+}
+
+static void move_anywhere(u64 session) {
+    u64 partition = below(store.partitions);
+    add_step(MOVE, session, holder(below(halls), partition), partition);
+}
+
+/* The session of a transaction just decided moves before the commits, and often looks for what
+ * it wrote. */
+static void walk(u64 number) {
+    u64 session = store.transaction[number - 1].session;
+    move_anywhere(session);
+    if (chance(50))
+        look_after(session, number - 1);
+}
+
+static void add_and_walk(struct Step s) {
+    add(s);
+    if (s.n[0] == DECIDE && chance(40))
+        walk(s.n[1]);
+}
+
+static bool good(u64 code) {
+    struct Step s;
+    bool found = find_good(code, SIZE_MAX, &s);
+    if (found)
+        add_and_walk(s);
+    return found;
 }
 
 /* No transaction stays prepared and no channel keeps a message. */
@@ -311,13 +350,74 @@ static void settle(void) {
         continue;
 }
 
+/* Two sessions move to two holders of a key, write it at equal times where the clocks allow, and
+ * move on before the commits: the halls they ended under decide. */
+static void tie(void) {
+    u64 key = any_key(), partition = key % store.partitions;
+    u64 one = holder(below(halls), partition), other = holder((one + 1) % halls, partition);
+    if (one == other || sessions < 2 || store.requests + sessions + 2 > REQUESTS)
+        return;
+    each(END);
+    settle();
+    catch_up();
+    u64 number = store.requests, first = below(sessions), more = 1 + below(sessions - 1);
+    for (u64 i = 0; i < 2; i++) {
+        u64 session = (first + i * more) % sessions;
+        add_step(MOVE, session, i == 0 ? one : other, partition);
+        add_step(START, session, 0, 0);
+        add_step(WRITE, session, key, any_value());
+        add_step(END, session, 0, 0);
+    }
+    each(PREPARE);
+    each(DECIDE);
+    for (u64 i = 1; i <= 2; i++)
+        if (chance(70))
+            walk(number + i);
+    settle();
+    full_round();
+    look(number);
+}
+
+/* One server alone learns. A session comes there and goes on, mostly with what it learned; then
+ * some session comes to where it is. */
+static void carry(void) {
+    struct Step s;
+    if (!find_good(MOVE, SIZE_MAX, &s))
+        return;
+    catch_up();
+    gossip();
+    add_step(LEARN, s.n[2], s.n[3], 0);
+    add(s);
+    if (chance(80)) {
+        add_step(START, s.n[1], 0, 0);
+        add_step(END, s.n[1], 0, 0);
+    }
+    move_anywhere(s.n[1]);
+    struct Home home = store.session[s.n[1]].home;
+    if (chance(60))
+        look_after(s.n[1], 0);
+    if (find_good(MOVE, SIZE_MAX, &s)) {
+        add_step(MOVE, s.n[1], home.hall, home.partition);
+        look_after(s.n[1], 0);
+    }
+}
+
+static void moves(void) {
+    if (chance(50))
+        tie();
+    else
+        carry();
+}
+
 static void wave(void) {
+    if (chance(60))
+        moves();
     if (chance(60))
         catch_up();
     if (chance(50))
         settle();
     full_round();
-    look();
+    look(0);
 }
 
 static void mixed(size_t target) {
@@ -331,7 +431,7 @@ static void mixed(size_t target) {
     settle();
     catch_up();
     full_round();
-    look();
+    look(0);
 }
 
 /* "let L be the lowest over servers of the larger of reading and hybrid clock" */
@@ -362,14 +462,16 @@ static void rounds(void) {
     for (u64 turns = 2 + below(6); turns > 0; turns--) {
         for (u64 i = 20 + below(60); i > 0; i--)
             good(weighted(busy));
+        if (chance(30))
+            moves();
         settle();
         if (chance(50))
             catch_up();
         u64 lowest = lowest_clock();
         full_round();
         check_round(lowest);
-        look();
-        look();
+        look(0);
+        look(0);
     }
 }
 
@@ -394,10 +496,10 @@ static struct Step any_step(u64 code) {
 
 static void bad_step(void) {
     u64 kind = below(7);
-    struct Step s = any_step(1 + below(LEARN));
+    struct Step s = any_step(1 + below(LAST_CODE));
     u64 place = 1 + below(3);
     if (kind == 0) { /* unknown code */
-        u64 near = 14 + below(4);
+        u64 near = LAST_CODE + 1 + below(4);
         s.n[0] = chance(30) ? 0 : chance(50) ? near : huge();
     } else if (kind == 1) { /* often an unused number not 0 */
         s.n[3] = 1 + below(3);
@@ -481,6 +583,8 @@ static void batch(void) {
         if (chance(20))
             good(DECIDE);
     each(DECIDE);
+    for (u64 i = below(sessions); i > 0; i--)
+        good(MOVE);
     fill_channels(9 + below(2));
     while (good(COMMIT) && !no_room)
         if (chance(10))
@@ -516,7 +620,7 @@ static void full(void) {
         continue;
     catch_up();
     full_round();
-    look();
+    look(0);
     for (u64 key = 0; key < KEYS; key++)
         good(READ);
     fill_channels(9);
@@ -530,7 +634,8 @@ static size_t slack(void) {
     return need < TEXT_LIMIT ? TEXT_LIMIT - need : 0;
 }
 
-/* Session 0 writes nothing before the last steps, so it is never kept committing. */
+/* Session 0 writes nothing before the last steps but in a tie, decided at once, so it is never
+ * kept committing. */
 static bool may_stand(struct Step s) {
     return s.n[0] != WRITE || s.n[1] != 0;
 }
@@ -558,7 +663,7 @@ static void paced_step(size_t spare, size_t last) {
     if (code == END && early)
         code = READ;
     if (slack() > share + 20 && find_good(code, SHORTEST_STEP + 20, &s) && may_stand(s))
-        add(s);
+        add_and_walk(s);
     else
         short_step();
 }

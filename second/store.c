@@ -1,4 +1,5 @@
-/* The rules of document 01; each function quotes the words it follows. */
+/* The rules of document 01 and of request a of document 02; each function quotes the words it
+ * follows. */
 #include "store.h"
 
 #include <string.h>
@@ -96,7 +97,7 @@ static struct View view_at(const struct Server *server, u64 key, u64 snapshot) {
 static void hold(struct Store *store, u64 hall, u64 partition, u64 number) {
     struct Server *server = &store->server[hall][partition];
     const struct Transaction *t = transaction(store, number);
-    struct Stamp stamp = {t->commit_time, store->session[t->session].home.hall, number};
+    struct Stamp stamp = {t->commit_time, t->hall, number};
     for (size_t i = 0; i < t->writes.count; i++) {
         const struct Entry *e = &t->writes.list[i];
         if (partition_of(store, e->key) == partition)
@@ -183,6 +184,8 @@ static bool not_there(const struct Store *store, u64 code, u64 a, u64 b, u64 c) 
         return a < 1 || a > store->requests || b != 0 || c != 0;
     case INSTALL: case REPORT: case LEARN:
         return !holds(store, a, b) || c != 0;
+    case MOVE:
+        return a >= store->sessions || !holds(store, b, c);
     case DELIVER:
         return !holds(store, b, a) || !holds(store, c, a) || b == c;
     case SHARE:
@@ -229,7 +232,7 @@ unsigned refusal(const struct Store *store, u64 code, u64 a, u64 b, u64 c) {
         return 4;
     if (code == TICK && c < store->server[a][b].reading)
         return 5;
-    if (code == START && store->session[a].phase != IDLE)
+    if ((code == START || code == MOVE) && store->session[a].phase != IDLE)
         return 6;
     if ((code == READ || code == WRITE || code == END) && store->session[a].phase != RUNNING)
         return 7;
@@ -244,7 +247,7 @@ unsigned refusal(const struct Store *store, u64 code, u64 a, u64 b, u64 c) {
     return 0;
 }
 
-/* ---- The thirteen steps, each called only when nothing turns it away ---- */
+/* ---- The steps, each called only when nothing turns it away ---- */
 
 /* "two answers, 0 where not named" */
 static struct Answer answers(u64 first, u64 second) {
@@ -313,13 +316,14 @@ static struct Answer end(struct Store *store, u64 session) {
     u64 number = ++store->requests, written = 0;
     struct Transaction *t = transaction(store, number);
     t->session = session;
+    t->hall = s->home.hall;
     t->writes = s->write_set;
     for (size_t i = 0; i < t->writes.count; i++) {
         u64 p = partition_of(store, t->writes.list[i].key);
         if (t->pairs[p].state == ASKED)
             continue;
         t->pairs[p].state = ASKED;
-        t->pairs[p].hall = writing_hall(store, s->home.hall, p);
+        t->pairs[p].hall = writing_hall(store, t->hall, p);
         written++;
     }
     s->phase = COMMITTING;
@@ -462,7 +466,14 @@ static struct Answer learn(struct Store *store, u64 hall, u64 partition) {
     return answers(server->stable, 0);
 }
 
-/* "Both answers are 0 and the room is unchanged": a refused step reaches none of the thirteen. */
+/* 14. "gives an idle session a new home server. Its stable time, last commit time and cache go
+ * along." They stand in the session. */
+static struct Answer move(struct Store *store, u64 session, u64 hall, u64 partition) {
+    store->session[session].home = (struct Home){hall, partition};
+    return answers(0, 0);
+}
+
+/* "Both answers are 0 and the room is unchanged": a refused step reaches none of these. */
 struct Answer step(struct Store *store, u64 code, u64 a, u64 b, u64 c) {
     unsigned number = refusal(store, code, a, b, c);
     if (number != 0)
@@ -480,6 +491,7 @@ struct Answer step(struct Store *store, u64 code, u64 a, u64 b, u64 c) {
     case DELIVER: return deliver(store, a, b, c);
     case REPORT:  return report(store, a, b);
     case SHARE:   return share(store, a, b);
-    default:      return learn(store, a, b);
+    case LEARN:   return learn(store, a, b);
+    default:      return move(store, a, b, c);
     }
 }

@@ -1,4 +1,5 @@
-/* The recipe store of document 01, kept in plain structs and lists. */
+/* The recipe store of document 01 and of request a of document 02, kept in plain structs and
+ * lists. */
 #ifndef STORE_H
 #define STORE_H
 
@@ -15,10 +16,11 @@ enum { HALLS = 4, PARTITIONS = 4, SESSIONS = 16, KEYS = 32, REQUESTS = 64, PLACE
 /* "clock readings 0 to 2^48 - 1" */
 #define LAST_READING ((UINT64_C(1) << 48) - 1)
 
-/* "The thirteen steps" */
+/* "The thirteen steps", "New step 14" */
 enum Code {
     TICK = 1, START, READ, WRITE, END, PREPARE, DECIDE, COMMIT,
-    INSTALL, DELIVER, REPORT, SHARE, LEARN
+    INSTALL, DELIVER, REPORT, SHARE, LEARN, MOVE,
+    LAST_CODE = MOVE
 };
 
 /* "its stamp: commit time, coordinator's hall, transaction number" */
@@ -88,8 +90,9 @@ struct Pair {
     u64 hall, proposed;
 };
 
+/* "A transaction keeps the coordinator's hall it ended under": its session may have moved since. */
 struct Transaction {
-    u64 session;
+    u64 session, hall;
     struct Entries writes;
     struct Pair pairs[PARTITIONS];
     bool decided;
