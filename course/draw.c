@@ -14,7 +14,7 @@ typedef uint64_t u64;
 enum { HALLS = 4, PARTITIONS = 4, SESSIONS = 16, KEYS = 32, REQUESTS = 64, STEPS = 8000 };
 enum { LANES = HALLS + HALLS * PARTITIONS, MESSAGES = STEPS * (HALLS - 1), NONE = -1 };
 enum { SCRIPT_LIMIT = 65536, PRINTOUT_LIMIT = 1 << 20 };
-enum Code { TICK = 1, START, READ, WRITE, END, PREPARE, DECIDE, COMMIT, INSTALL, DELIVER, REPORT, SHARE, LEARN };
+enum Code { TICK = 1, START, READ, WRITE, END, PREPARE, DECIDE, COMMIT, INSTALL, DELIVER, REPORT, SHARE, LEARN, MOVE };
 
 /* ---- The two texts ---- */
 
@@ -68,8 +68,10 @@ struct Session {
     u64 cached[KEYS];        /* commit times of the cache, 0 where there is none */
 };
 
+/* "A transaction keeps the coordinator's hall it ended under": its session may have moved since. */
 struct Transaction {
     int session; /* NONE where there is no such number yet */
+    u64 hall, partition;
     uint32_t keys;
 };
 
@@ -84,6 +86,7 @@ struct Row {
     int lane, asker;     /* where it happens, and the lane it is asked from; NONE where it has no place */
     bool sets_stable;
     u64 stable;
+    u64 mover; /* the session, where one moves */
     char words[192], label[64];
 };
 
@@ -97,6 +100,8 @@ static int row_count;
 static char ending[128]; /* why the picture ends before the script does; else empty */
 
 static int lane_count, hall_lane[HALLS], server_lane[HALLS][PARTITIONS];
+static char homes[LANES][96]; /* which sessions begin there */
+static bool moved;            /* did any of them move? */
 
 static bool holds(u64 hall, u64 partition) {
     return hall < halls && partition < partitions && (masks[hall] >> partition & 1) == 1;
@@ -117,7 +122,7 @@ static struct Transaction *transaction(u64 number) {
 
 static int coordinator_of(u64 number) {
     struct Transaction *t = transaction(number);
-    return t == NULL ? NONE : home_of((u64)t->session);
+    return t == NULL ? NONE : lane_of(t->hall, t->partition);
 }
 
 /* "the coordinator's hall if it holds it, else the first holder found counting up from it and past the last back to 0" */
@@ -125,7 +130,7 @@ static int writer_of(u64 number, u64 partition) {
     struct Transaction *t = transaction(number);
     if (t == NULL || partition >= partitions)
         return NONE;
-    u64 hall = sessions[t->session].hall;
+    u64 hall = t->hall;
     while (!holds(hall, partition))
         hall = (hall + 1) % halls;
     return lane_of(hall, partition);
@@ -225,6 +230,13 @@ static void ask(struct Row *row, const u64 n[4]) {
         row->lane = lane_of(a, b);
         row->asker = lane_of_hall(a);
         break;
+    case MOVE:
+        WORDS("session " N " moves", a);
+        row->lane = home_of(a);
+        if (row->lane != NONE)
+            WORDS(" from " SERVER, sessions[a].hall, sessions[a].partition);
+        WORDS(" to " SERVER, b, c);
+        break;
     default:
         WORDS("step " N " " N " " N " " N, n[0], a, b, c);
     }
@@ -271,8 +283,9 @@ static void end(struct Row *row, u64 session, u64 number, u64 written) {
     }
     WORDS(": transaction " N ", partitions: " N, number, written);
     LABEL("T" N, number);
+    const struct Session *s = &sessions[session];
     if (number <= REQUESTS)
-        transactions[number] = (struct Transaction){(int)session, sessions[session].written};
+        transactions[number] = (struct Transaction){(int)session, s->hall, s->partition, s->written};
 }
 
 static void decide(u64 number, u64 time) {
@@ -289,6 +302,15 @@ static void decide(u64 number, u64 time) {
 static void set_stable(struct Row *row, u64 time) {
     row->sets_stable = true;
     row->stable = time;
+}
+
+static void move(struct Row *row, u64 session, u64 hall, u64 partition) {
+    sessions[session].hall = hall;
+    sessions[session].partition = partition;
+    row->mover = session;
+    row->asker = row->lane;
+    row->lane = home_of(session);
+    moved = true;
 }
 
 /* What was answered. The lane says that the numbers are there, even where the printout is not this script's. */
@@ -355,10 +377,14 @@ static void answer(struct Row *row, const u64 n[4], u64 first, u64 second) {
         LABEL("stable " N, first);
         set_stable(row, first);
         break;
+    case MOVE:
+        LABEL("session " N, a);
+        move(row, a, b, c);
+        break;
     }
 }
 
-/* Can the followed state take this step? A key or a sender is no lane, so they are looked at here. */
+/* Can the followed state take this step? A key, a sender or a new home is no lane, so they are looked at here. */
 static bool has_place(const struct Row *row, const u64 n[4]) {
     if (row->lane == NONE)
         return false;
@@ -371,6 +397,8 @@ static bool has_place(const struct Row *row, const u64 n[4]) {
         return holds(n[2], n[1]);
     case SHARE:
         return row->asker != NONE;
+    case MOVE:
+        return holds(n[2], n[3]);
     default:
         return true;
     }
@@ -402,6 +430,10 @@ static void give_lanes(void) {
                 server_lane[h][p] = lane_count++;
                 servers++;
             }
+    }
+    for (u64 s = 0; s < session_count; s++) {
+        char *line = homes[home_of(s)];
+        put(line, sizeof homes[0], "%s" N, line[0] == 0 ? "sessions: " : ", ", s);
     }
 }
 
@@ -494,13 +526,6 @@ static void at_least(int *size, int needed) {
         *size = needed;
 }
 
-static void sessions_of(u64 hall, u64 partition, char *line, size_t size) {
-    line[0] = 0;
-    for (u64 s = 0; s < session_count; s++)
-        if (sessions[s].hall == hall && sessions[s].partition == partition)
-            put(line, size, "%s" N, line[0] == 0 ? "sessions: " : ", ", s);
-}
-
 enum { REFUSED = 0, LATE = 100, STABLE }; /* marks that are no code */
 
 static const struct { u64 mark; const char *words; } legend[] = {
@@ -518,8 +543,10 @@ static const struct { u64 mark; const char *words; } legend[] = {
     {REPORT, "report, share, learn: the time passed on"},
     {STABLE, "a server's stable time: wider is later"},
     {REFUSED, "turned away, with its number"},
+    {MOVE, "move: the session's home from here on"}, /* last, for it stands only where it is needed */
 };
-enum { LEGENDS = sizeof legend / sizeof legend[0] };
+
+static int legends(void) { return (int)(sizeof legend / sizeof legend[0]) - !moved; }
 
 static int legend_columns(void) { return (width - 2 * LEFT) / LEGEND_COLUMN; }
 
@@ -540,11 +567,9 @@ static void measure(void) {
         for (u64 p = 0; p < partitions; p++) {
             if (!holds(h, p))
                 continue;
-            char line[96];
-            sessions_of(h, p, line, sizeof line);
             lane = server_lane[h][p];
             at_least(&widest[lane], label_width(13) - BAND);
-            at_least(&widest[lane], label_width(strlen(line)) - BAND);
+            at_least(&widest[lane], label_width(strlen(homes[lane])) - BAND);
             lane_left[lane] = x;
             lane_x[lane] = x + BAND + GAP;
             x = lane_x[lane] + LABEL_AT + widest[lane] + GAP;
@@ -556,7 +581,7 @@ static void measure(void) {
     at_least(&width, 2 * LEFT + 2 * LEGEND_COLUMN);
     at_least(&width, words_at + words_width(strlen(ending)) + LEFT);
     rows_end = HEAD + ROW * row_count + (ending[0] != 0 ? 2 * ROW : ROW / 2);
-    int lines = (LEGENDS + legend_columns() - 1) / legend_columns();
+    int lines = (legends() + legend_columns() - 1) / legend_columns();
     height = rows_end + 2 * ROW + LEGEND_ROW * lines + FOOT;
 }
 
@@ -565,7 +590,7 @@ static const char *colour_of(u64 code) {
     switch (code) {
     case TICK:
         return "#666";
-    case START: case READ:
+    case START: case READ: case MOVE:
         return "#1a5fb4";
     case WRITE: case END: case PREPARE: case DECIDE: case COMMIT:
         return "#9c4a00";
@@ -614,6 +639,9 @@ static void mark(u64 code, int x, int y) {
     case INSTALL:
         printf("<path d=\"M%d %dh12v10h-12z\" fill=\"%s\"/>\n", x - 6, y - 5, colour);
         break;
+    case MOVE: /* a house */
+        printf("<path d=\"M%d %dl8 7v6h-16v-6z\" fill=\"%s\"/>\n", x, y - 8, colour);
+        break;
     case REFUSED:
         printf("<path d=\"M%d %dl10 10m0 -10l-10 10\" stroke=\"%s\" stroke-width=\"3\"/>\n", x - 5, y - 5, red);
         break;
@@ -625,7 +653,6 @@ static void mark(u64 code, int x, int y) {
 /* ---- The layers, from the back to the front ---- */
 
 static void draw_halls(void) {
-    char line[96];
     for (u64 h = 0; h < halls; h++) {
         int x = lane_left[hall_lane[h]];
         int end = (h + 1 < halls ? lane_left[hall_lane[h + 1]] : lane_left[lane_count]) - GAP;
@@ -635,11 +662,11 @@ static void draw_halls(void) {
         for (u64 p = 0; p < partitions; p++) {
             if (!holds(h, p))
                 continue;
-            x = lane_left[server_lane[h][p]] + GAP;
+            int lane = server_lane[h][p];
+            x = lane_left[lane] + GAP;
             text('l', x, 76, black, "server " SERVER, h, p);
-            sessions_of(h, p, line, sizeof line);
-            if (line[0] != 0)
-                text('l', x, 92, colour_of(START), "%s", line);
+            if (homes[lane][0] != 0)
+                text('l', x, 92, colour_of(START), "%s", homes[lane]);
         }
     }
 }
@@ -680,6 +707,26 @@ static void draw_stable_times(void) {
             from = y_of(i);
         }
         draw_band(lane_x[lane], wide, from, HEAD + ROW * row_count);
+    }
+}
+
+static const char walk[] = "stroke=\"#99c1f1\" stroke-width=\"5\"/>";
+
+/* A session that moves is followed along its home lanes. */
+static void draw_walks(void) {
+    for (u64 s = 0; s < session_count; s++) {
+        bool walks = false;
+        for (int i = 0; i < row_count; i++) {
+            const struct Row *row = &rows[i];
+            if (row->code != MOVE || row->asker == NONE || row->mover != s)
+                continue;
+            if (!walks)
+                printf("<path d=\"M%d %d", lane_x[row->asker], HEAD);
+            printf("V%dH%d", y_of(i), lane_x[row->lane]);
+            walks = true;
+        }
+        if (walks)
+            printf("V%d\" %s\n", HEAD + ROW * row_count, walk);
     }
 }
 
@@ -743,7 +790,7 @@ static void draw_rows(void) {
 
 static void draw_legend(void) {
     int columns = legend_columns(), top = rows_end + 2 * ROW;
-    for (int i = 0; i < LEGENDS; i++) {
+    for (int i = 0; i < legends(); i++) {
         int x = LEFT + LEGEND_COLUMN * (i % columns) + 24, y = top + LEGEND_ROW * (i / columns);
         switch (legend[i].mark) {
         case DELIVER:
@@ -757,6 +804,10 @@ static void draw_legend(void) {
             break;
         case STABLE:
             draw_band(x + 10, 24, y - 7, y + 7);
+            break;
+        case MOVE:
+            printf("<path d=\"M%d %dH%d\" %s\n", x - 20, y, x, walk);
+            mark(MOVE, x, y);
             break;
         default:
             mark(legend[i].mark, x, y);
@@ -784,6 +835,7 @@ static void draw(void) {
          halls == 0 ? 0 : session_count, row_count);
     draw_halls();
     draw_stable_times();
+    draw_walks();
     draw_lines();
     draw_arrows();
     draw_rows();
