@@ -35,17 +35,6 @@ Kept σ τ t = record {
   time : 0 < σ (CommitTime t) → τ (CommitTime t) ≡ σ (CommitTime t);
 }
 
-kept-kept : (σ τ υ : Store) (t : ℕ) → Kept σ τ t → Kept τ υ t → Kept σ υ t
-kept-kept σ τ υ t K L = record {
-  there = L .there;
-  by = L .by ∙ K .by;
-  from = L .from ∙ K .from;
-  writers = λ p. L .writers p ∙ K .writers p;
-  keys = L .keys ∙ K .keys;
-  values = λ k. L .values k ∙ K .values k;
-  time = λ d. L .time (rw (K .time d) d) ∙ K .time d;
-}
-
 module _ (σ : Store) (t : ℕ) (b : t < σ Transactions) where
   same : Kept σ σ t
   same = record { there = b; by = refl; from = refl; writers = λ p. refl; keys = refl; values = λ k. refl; time = λ d. refl }
@@ -80,6 +69,17 @@ module _ (σ : Store) (t : ℕ) (b : t < σ Transactions) where
   step-kept (Step.shares f to a b) = same
   step-kept (Step.learns h p a) = same
   step-kept (Step.moves s h p a b c) = same
+
+kept-kept : (σ τ υ : Store) (t : ℕ) → Kept σ τ t → Kept τ υ t → Kept σ υ t
+kept-kept σ τ υ t K L = record {
+  there = L .there;
+  by = L .by ∙ K .by;
+  from = L .from ∙ K .from;
+  writers = λ p. L .writers p ∙ K .writers p;
+  keys = L .keys ∙ K .keys;
+  values = λ k. L .values k ∙ K .values k;
+  time = λ d. L .time (rw (K .time d) d) ∙ K .time d;
+}
 
 -- "A transaction keeps the coordinator's hall it ended under, for its stamp and writing halls", by whatever steps.
 pub transaction-kept : {σ τ : Store} → Later σ τ → (t : ℕ) → t < σ Transactions → Kept σ τ t
