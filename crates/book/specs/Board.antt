@@ -103,7 +103,7 @@ waitingAt1 = bothPrepared ⟨ CommitTime 0 ≔ 100 ⟩ ⟨ State 0 1 ≔ waiting
 
 -- the same, installed at (0, 1) and sent to (1, 1)
 abbrev sent : Store
-sent = waitingAt1 ⟨ State 0 1 ≔ installed ⟩ ⟨ Waiting 1 1 0 ≔ 1 ⟩ ⟨ ClockSent 1 1 0 0 ≔ 100 ⟩ ⟨ Carries 1 1 0 0 ≔ 1 ⟩
+sent = waitingAt1 ⟨ State 0 1 ≔ installed ⟩ ⟨ Entry 0 1 0 ≔ 100 ⟩ ⟨ Waiting 1 1 0 ≔ 1 ⟩ ⟨ ClockSent 1 1 0 0 ≔ 100 ⟩ ⟨ Carries 1 1 0 0 ≔ 1 ⟩
 
 -- lines worked out by hand from the page, most of them from its printout
 unfoldable pub worked : List Line
@@ -132,6 +132,19 @@ worked =
     -- "7 messages waiting, install taken; 8, number 10"
     ∷ refusal (waitingAt1 ⟨ Waiting 1 1 0 ≔ 7 ⟩) 9 0 1 0 gives 0
     ∷ refusal (waitingAt1 ⟨ Waiting 1 1 0 ≔ 8 ⟩) 9 0 1 0 gives 10
+    -- document 02, b: with nothing to install and the clock at 100 as before it is quiet, and taken at a full channel
+    ∷ refusal (sent ⟨ Waiting 1 1 0 ≔ 8 ⟩) 9 0 1 0 gives 0
+    ∷ first sent 9 0 1 0 gives 100
+    ∷ second sent 9 0 1 0 gives 0
+    ∷ after sent 9 0 1 0 (Waiting 1 1 0) gives 1
+    -- the clock alone rises to 101: a message would be sent
+    ∷ refusal (sent ⟨ Reading 0 1 ≔ 101 ⟩ ⟨ Waiting 1 1 0 ≔ 8 ⟩) 9 0 1 0 gives 10
+    ∷ after (sent ⟨ Reading 0 1 ≔ 101 ⟩) 9 0 1 0 (Waiting 1 1 0) gives 2
+    -- one is installed though the clock stays
+    ∷ after (waitingAt1 ⟨ Entry 0 1 0 ≔ 100 ⟩) 9 0 1 0 (Waiting 1 1 0) gives 1
+    -- prepared at 90, nothing to install: the clock comes to 89, and stays there
+    ∷ after bothPrepared 9 0 1 0 (Waiting 1 1 0) gives 1
+    ∷ after (bothPrepared ⟨ Entry 0 1 0 ≔ 89 ⟩) 9 0 1 0 (Waiting 1 1 0) gives 0
     -- step 21: clock 100, one installed; then the channel is empty
     ∷ first sent 10 1 0 1 gives 100
     ∷ second sent 10 1 0 1 gives 1
@@ -170,4 +183,4 @@ worked =
 pub worked-holds : Holds worked
 unfolding worked any all count sum lowest largest member include setOf firstFrom mergeAll setupRefusal setupAnswer ruleOf refusal after answer
 worked-holds =
-    (refl, (refl, (refl, (refl, (refl, (refl, (refl, (refl, (refl, (refl, (refl, (refl, (refl, (refl, (refl, (refl, (refl, (refl, (refl, (refl, (refl, (refl, (refl, (refl, (refl, (refl, (refl, (refl, (refl, (refl, (refl, (refl, (refl, (refl, (refl, (refl, (refl, (refl, (refl, (refl, tt))))))))))))))))))))))))))))))))))))))))
+    (refl, (refl, (refl, (refl, (refl, (refl, (refl, (refl, (refl, (refl, (refl, (refl, (refl, (refl, (refl, (refl, (refl, (refl, (refl, (refl, (refl, (refl, (refl, (refl, (refl, (refl, (refl, (refl, (refl, (refl, (refl, (refl, (refl, (refl, (refl, (refl, (refl, (refl, (refl, (refl, (refl, (refl, (refl, (refl, (refl, (refl, (refl, (refl, (refl, tt)))))))))))))))))))))))))))))))))))))))))))))))))

@@ -74,7 +74,7 @@ commitRefusal σ n p z =
     cond (not (transactionThere σ n && (ltb p (σ Partitions) && unused z))) 3
     (cond (not (decided σ (placeOf n) && eqb (σ (State (placeOf n) p)) prepared)) 9 0)
 
--- 9. Install. 10: "install while an outgoing channel holds 8".
+-- 9. Install. 10: "install while an outgoing channel holds 8"; document 02, b: "now only when a message would be sent".
 abbrev pub installRefusal : Store → ℕ → ℕ → ℕ → ℕ
 installRefusal σ h p z =
     cond (not (holds σ h p && unused z)) 3

@@ -1,6 +1,6 @@
 -- Steps 9 and 10: install, deliver.
 use Prim.Native.Nat.{ℕ, suc, _+_, _-_, _%_, max}
-use mathlib.Core.Bool.{Bool, false, cond, _&&_, not}
+use mathlib.Core.Bool.{Bool, cond, _&&_, not}
 use lib.Dec.{eqb, ltb, leb}
 use Rattle.book.specs.Sizes.{placesMax, slots}
 use Rattle.book.specs.Cells.{Store, _⟨_≔_⟩, each2, each3, each4, Reading, Hybrid, Entry, Held, CommitTime, State, prepared, waiting, installed, Proposed, First, Waiting, ClockSent, Carries}
@@ -34,13 +34,21 @@ abbrev pub installs : Store → ℕ → ℕ → ℕ → Bool
 installs σ h p t =
     eqb (σ (State t p)) waiting && (eqb (writer σ t p) h && leb (σ (CommitTime t)) (versionClock σ h p))
 
--- an install that sends no message: none, since one goes out "even if empty"
+-- "Answers the version clock and the number installed."
+abbrev pub numberInstalled : Store → ℕ → ℕ → ℕ
+numberInstalled σ h p = count placesMax (installs σ h p)
+
+-- document 02, b: "An install that installs nothing and leaves the version clock where it was shall send no message"
 abbrev pub isQuiet : Store → ℕ → ℕ → Bool
-isQuiet σ h p = false
+isQuiet σ h p = eqb (numberInstalled σ h p) 0 && eqb (versionClock σ h p) (σ (Entry h p h))
+
+-- "each other holder"
+abbrev pub otherHolder : Store → ℕ → ℕ → ℕ → Bool
+otherHolder σ h p g = not (eqb h g) && holds σ g p
 
 -- "One message with these and the version clock goes to each other holder"
 abbrev pub sendsTo : Store → ℕ → ℕ → ℕ → Bool
-sendsTo σ h p g = not (isQuiet σ h p) && (not (eqb h g) && holds σ g p)
+sendsTo σ h p g = not (isQuiet σ h p) && otherHolder σ h p g
 
 -- the channel to g for q from f gets a message when (h, p) installs
 abbrev pub outgoing : Store → ℕ → ℕ → ℕ → ℕ → ℕ → Bool
@@ -63,10 +71,6 @@ install σ h p =
     (λ g q f n. setOf placesMax (installs σ h p))
     (each3 Waiting (outgoing σ h p) (λ g q f. suc (σ (Waiting g q f)))
     (σ ⟨ Hybrid h p ≔ hybridAfter σ h p ⟩ ⟨ Entry h p h ≔ versionClock σ h p ⟩)))))
-
--- "Answers the version clock and the number installed."
-abbrev pub numberInstalled : Store → ℕ → ℕ → ℕ
-numberInstalled σ h p = count placesMax (installs σ h p)
 
 -- 10. Deliver (partition, from, to). The oldest message's clock and transactions.
 abbrev pub clockCarried : Store → ℕ → ℕ → ℕ → ℕ

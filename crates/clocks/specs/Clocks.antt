@@ -3,8 +3,8 @@ use Prim.Native.Nat.{ℕ}
 use mathlib.Core.Path.{_≡_, _∙_}
 use Rattle.book.specs.declared.Clock.{Clock}
 use Rattle.book.specs.Cells.{Store, _⟨_≔_⟩, Reading, Hybrid, Entry}
+use Rattle.book.specs.Updates.{keep}
 use Rattle.book.specs.CommitSteps.{proposedTime}
-use Rattle.room.specs.Updates.{keep}
 
 abbrev pub clock : ℕ → ℕ → ℕ → Clock
 clock x y z = record { reading = record { 0 = x }; hybrid = record { 0 = y }; version = record { 0 = z } }

@@ -6,9 +6,9 @@ use native.Mathlib.Omega.{arith}
 use lib.Dec.{eqb}
 use Rattle.book.specs.Sizes.{keys}
 use Rattle.book.specs.Cells.{Cell, same, Store, _⟨_≔_⟩, each2, CacheValue, CacheTime, KeySet, Value}
+use Rattle.book.specs.Updates.{bulk, upd, commute}
 use Rattle.book.specs.Sets.{member}
 use Rattle.masks.specs.Bits.{member-beyond}
-use Rattle.room.specs.Updates.{bulk, upd, commute}
 use Rattle.room.specs.Bulk.{Row, upTo, begin, ahead, next, done, row2j}
 
 -- one key of the transaction at place t, if it is in the set m: to the cache of session s, at time x

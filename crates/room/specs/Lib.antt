@@ -1,4 +1,3 @@
-pub mod Updates
 pub mod Layout
 pub mod Checked
 pub mod Words

@@ -14,9 +14,9 @@ use Rattle.book.specs.declared.Vector.{Vector}
 use Rattle.book.specs.Sizes.{hallsMax, partitionsMax, placesMax}
 use Rattle.book.specs.Cells.{Cell, cell, Store, _⟨_≔_⟩, each3, Entry, Held}
 use Rattle.book.specs.Cases.{by-test, by-eq, and-true}
+use Rattle.book.specs.Updates.{is, is-own, one-cell, bulk}
 use Rattle.book.specs.Folds.{all-at}
 use Rattle.book.specs.Sets.{member}
-use Rattle.room.specs.Updates.{is, is-own, one-cell, bulk}
 use Rattle.room.specs.Layout.{size, at, Within, valid, store, stretch, start}
 use Rattle.room.specs.Bulk.{Row, upTo, row3k}
 use Rattle.room.specs.Checked.{ofServer, each-stretch}

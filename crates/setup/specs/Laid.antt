@@ -10,8 +10,8 @@ use borrow.Author.Tests.{ltb-true}
 use Rattle.book.specs.Sizes.{hallsMax, sessionsMax}
 use Rattle.book.specs.Cells.{Cell, cell, Store, _⟨_≔_⟩, each1, Halls, Partitions, Sessions}
 use Rattle.book.specs.Cases.{by-test, and-true}
+use Rattle.book.specs.Updates.{is, one-cell}
 use Rattle.book.specs.Setup.{partitionsHeld, numbersSet, firstStore}
-use Rattle.room.specs.Updates.{is, one-cell}
 use Rattle.room.specs.Bulk.{row1}
 use Rattle.room.specs.Layout.{Within, valid, store}
 use Rattle.room.specs.Words.{within}

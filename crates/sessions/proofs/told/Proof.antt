@@ -1,8 +1,8 @@
 use mathlib.Core.Path.{refl, sym, _∙_}
 use borrow.Author.Needs.{needs}
 use Rattle.book.specs.Cells.{_⟨_≔_⟩, ReadSet, ReadValue}
+use Rattle.book.specs.Updates.{keep}
 use Rattle.room.specs.Layout.{store}
-use Rattle.room.specs.Updates.{keep}
 use Rattle.sessions.proofs.told.Statement.{statement}
 use Rattle.sessions.proofs.told.Tie as tie
 

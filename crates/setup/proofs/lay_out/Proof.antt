@@ -1,6 +1,6 @@
 use mathlib.Core.Path.{_∙_}
 use Rattle.book.specs.Cells.{Halls, Sessions}
-use Rattle.room.specs.Updates.{upd}
+use Rattle.book.specs.Updates.{upd}
 use Rattle.setup.specs.Rows.{rows-numbers}
 use borrow.Author.Needs.{needs}
 use Rattle.setup.proofs.lay_out.Statement.{statement}

@@ -3,7 +3,7 @@ use mathlib.Core.Path.{sym}
 use native.Mathlib.Omega.{arith}
 use borrow.Author.Needs.{needs}
 use Rattle.book.specs.Cells.{Held}
-use Rattle.room.specs.Updates.{keep}
+use Rattle.book.specs.Updates.{keep}
 use Rattle.room.specs.Stretch.{local, local-set}
 use Rattle.room.proofs.stretch.hold_if.Statement.{statement}
 use Rattle.room.proofs.stretch.hold_if.Tie as tie
