@@ -38,6 +38,8 @@ first-inv masks homes z =
         order = λ g p f i j n l m. absurd (omega arith);
         fresh = λ g p f i t n l e. absurd (omega arith);
         later = λ g p f i j t n l m e. absurd (omega arith);
+        heard = λ g p f n k w. omega arith;
+        newest = λ g p f i n k w. omega arith;
       };
       holding = record {
         home = λ t p e. absurd (omega arith);

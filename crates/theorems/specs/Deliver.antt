@@ -44,7 +44,7 @@ module _ (σ : Store) (I : Inv σ) (p f g : ℕ) (apart : f ≡ g → ⊥) (some
   Moved : ℕ → ℕ → ℕ → Type 0
   Moved g′ q f′ = record {
     entry : deliver σ p f g (Entry g′ q f′) ≡ clockAt σ g′ q f′ 0;
-    count : (i : ℕ) → i < deliver σ p f g (Waiting g′ q f′) → suc i < σ (Waiting g′ q f′);
+    count : σ (Waiting g′ q f′) ≡ suc (deliver σ p f g (Waiting g′ q f′));
     clock : (i : ℕ) → clockAt (deliver σ p f g) g′ q f′ i ≡ clockAt σ g′ q f′ (suc i);
     set : (i : ℕ) → setAt (deliver σ p f g) g′ q f′ i ≡ setAt σ g′ q f′ (suc i);
   }
@@ -55,7 +55,7 @@ module _ (σ : Store) (I : Inv σ) (p f g : ℕ) (apart : f ≡ g → ⊥) (some
       by-cell (Entry g p f) (Entry g′ q f′)
       (λ r c. y (record {
         entry = rw (c, r .i, r .j, r .k);
-        count = λ i l. let l′ = rw (c, r .i, r .j, r .k) at l in omega arith;
+        count = rw (c, ← r .i, ← r .j, ← r .k) (omega arith);
         clock = λ i. rw (c, r .i, r .j, r .k, shift (σ (First g′ q f′)) i);
         set = λ i. rw (c, r .i, r .j, r .k, shift (σ (First g′ q f′)) i);
       }))
@@ -68,20 +68,26 @@ module _ (σ : Store) (I : Inv σ) (p f g : ℕ) (apart : f ≡ g → ⊥) (some
         (λ r c. rw (c, ← r .j, ← r .k) (I .channels .high g p f 0 apart some))
         (λ c. rw c (I .channels .seen g′ q f′)));
     low = λ g′ q f′ i n l. by-channel g′ q f′
-        (λ m. rw (m .entry, m .clock i) (I .channels .order g′ q f′ 0 (suc i) n (omega arith) (m .count i l)))
+        (λ m. rw (m .entry, m .clock i) (I .channels .order g′ q f′ 0 (suc i) n (omega arith) (rw (m .count) (omega arith))))
         (λ c. rw c (I .channels .low g′ q f′ i n (rw c at l)));
     high = λ g′ q f′ i n l. rw (deliver-own f′ q) (by-channel g′ q f′
-        (λ m. rw (m .clock i) (I .channels .high g′ q f′ (suc i) n (m .count i l)))
+        (λ m. rw (m .clock i) (I .channels .high g′ q f′ (suc i) n (rw (m .count) (omega arith))))
         (λ c. rw c (I .channels .high g′ q f′ i n (rw c at l))));
     order = λ g′ q f′ i j n l k. by-channel g′ q f′
-        (λ m. rw (m .clock i, m .clock j) (I .channels .order g′ q f′ (suc i) (suc j) n (omega arith) (m .count j k)))
+        (λ m. rw (m .clock i, m .clock j) (I .channels .order g′ q f′ (suc i) (suc j) n (omega arith) (rw (m .count) (omega arith))))
         (λ c. rw c (I .channels .order g′ q f′ i j n l (rw c at k)));
     fresh = λ g′ q f′ i t n l e. by-channel g′ q f′
-        (λ m. rw (m .entry) (I .channels .later g′ q f′ 0 (suc i) t n (omega arith) (m .count i l) (rw (m .set i) at e)))
+        (λ m. rw (m .entry) (I .channels .later g′ q f′ 0 (suc i) t n (omega arith) (rw (m .count) (omega arith)) (rw (m .set i) at e)))
         (λ c. rw c (I .channels .fresh g′ q f′ i t n (rw c at l) (rw c at e)));
     later = λ g′ q f′ i j t n l k e. by-channel g′ q f′
-        (λ m. rw (m .clock i) (I .channels .later g′ q f′ (suc i) (suc j) t n (omega arith) (m .count j k) (rw (m .set j) at e)))
+        (λ m. rw (m .clock i) (I .channels .later g′ q f′ (suc i) (suc j) t n (omega arith) (rw (m .count) (omega arith)) (rw (m .set j) at e)))
         (λ c. rw c (I .channels .later g′ q f′ i j t n l (rw c at k) (rw c at e)));
+    heard = λ g′ q f′ n k w. rw (deliver-own f′ q) (by-channel g′ q f′
+        (λ m. rw (m .entry) (I .channels .newest g′ q f′ 0 n k (rw (m .count, w))))
+        (λ c. rw c (I .channels .heard g′ q f′ n k (rw c at w))));
+    newest = λ g′ q f′ i n k w. rw (deliver-own f′ q) (by-channel g′ q f′
+        (λ m. rw (m .clock i) (I .channels .newest g′ q f′ (suc i) n k (rw (m .count, w))))
+        (λ c. rw c (I .channels .newest g′ q f′ i n k (rw c at w))));
   }
 
   -- server (h, q) takes transaction t from the message

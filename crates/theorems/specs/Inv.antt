@@ -1,5 +1,5 @@
 -- What holds of every reached store, by topic: each a record with no name, so that a store that differs in other cells has the same one.
-use Prim.Native.Nat.{ℕ, _≤_, _<_}
+use Prim.Native.Nat.{ℕ, suc, _≤_, _<_}
 use mathlib.Core.Bool.{true}
 use mathlib.Core.Path.{_≡_}
 use mathlib.Core.Logic.{_⊎_}
@@ -64,6 +64,10 @@ Channels σ = record {
   fresh : (g p f i t : ℕ) → (f ≡ g → ⊥) → i < σ (Waiting g p f) → member (setAt σ g p f i) t ≡ true → σ (Entry g p f) < σ (CommitTime t);
   -- and above the clock of each message before it
   later : (g p f i j t : ℕ) → (f ≡ g → ⊥) → i < j → j < σ (Waiting g p f) → member (setAt σ g p f j) t ≡ true → clockAt σ g p f i < σ (CommitTime t);
+  -- where no message waits, the server knows the sender's version clock
+  heard : (g p f : ℕ) → (f ≡ g → ⊥) → holds σ g p ≡ true → σ (Waiting g p f) ≡ 0 → σ (Entry f p f) ≤ σ (Entry g p f);
+  -- and where one does, the newest says it
+  newest : (g p f i : ℕ) → (f ≡ g → ⊥) → holds σ g p ≡ true → suc i ≡ σ (Waiting g p f) → σ (Entry f p f) ≤ clockAt σ g p f i;
 }
 
 -- transaction t waits at (g, p) in a message from f

@@ -25,5 +25,6 @@ pub mod OwnWrites
 pub mod ReadYourWrites
 pub mod Carried
 pub mod Calls
+pub mod Quiet
 pub mod Round
 pub mod RoundLists

@@ -1,7 +1,8 @@
 -- "A full round": every stable time is then at least L.
 use Prim.Native.Nat.{ℕ, _≤_, _<_}
-use mathlib.Core.Bool.{Bool, true, false, _&&_, not, true≢false}
+use mathlib.Core.Bool.{Bool, true, false, _&&_, not, true≢false, false≢true}
 use mathlib.Core.Path.{_≡_, refl, sym, _∙_}
+use mathlib.Core.Logic.{_⊎_, inl, inr, ⊎-map, ⊎-elim}
 use mathlib.Core.List.{List, _++_}
 use native.Mathlib.Nat.{le-trans}
 use native.Mathlib.Omega.{arith}
@@ -12,7 +13,7 @@ use Rattle.book.specs.Cells.{Store, same, Halls, Stable, Entry, State, prepared
 use Rattle.book.specs.Cases.{by-test, by-eq, by-cell, and-true, at-same, eqb-refl}
 use Rattle.book.specs.Folds.{any, lowest, any-true, any-i, lowest-le, lowest-ge}
 use Rattle.book.specs.Servers.{holds, holds-hall}
-use Rattle.book.specs.ReplicationSteps.{preparedAt, hasPrepared, present, versionClock, installs, sendsTo, outgoing, nextSlot, slotOf, install, deliver}
+use Rattle.book.specs.ReplicationSteps.{preparedAt, hasPrepared, present, versionClock, installs, isQuiet, sendsTo, outgoing, nextSlot, slotOf, install, deliver}
 use Rattle.book.specs.GossipSteps.{lowestEntry, report, lowestOf, share, stableAfter, learn}
 use Rattle.book.specs.Refusals.{unused}
 use Rattle.book.specs.Steps.{ruleOf, installRule, deliverRule, reportRule, shareRule, learnRule}
@@ -20,7 +21,7 @@ use Rattle.book.specs.Reached.{Reached}
 use Rattle.theorems.specs.Setup.{Setup, server-small}
 use Rattle.theorems.specs.Inv.{clockAt}
 use Rattle.theorems.specs.Install.{install-hybrid}
-use Rattle.theorems.specs.Sent.{sendsTo-is, sendsTo-i, outgoing-i}
+use Rattle.theorems.specs.Sent.{quiet-clock, quiet-silent, sendsTo-is, sendsTo-i, outgoing-i}
 use Rattle.theorems.specs.Reach.{reached-inv}
 use Rattle.theorems.specs.Calls.{Call, call, sameCall, refusalOf, afterOf, run, AllTaken, EachOnce, run-append, taken-append, by-rule, phase, cells-phase}
 
@@ -39,6 +40,10 @@ atServer σ n x = eqb (x .code) n && (holds σ (x .a) (x .b) && unused (x .c))
 
 abbrev pub inChannel : Store → Call → Bool
 inChannel σ x = eqb (x .code) 10 && isChannel σ (x .a) (x .b) (x .c)
+
+-- a delivery, in a channel that holds a message in the store τ
+abbrev pub withMessage : Store → Store → Call → Bool
+withMessage σ τ x = inChannel σ x && not (eqb (τ (Waiting (x .c) (x .a) (x .b))) 0)
 
 abbrev pub betweenHalls : Store → Call → Bool
 betweenHalls σ x = eqb (x .code) 12 && (ltb (x .a) (σ Halls) && (ltb (x .b) (σ Halls) && unused (x .c)))
@@ -78,7 +83,8 @@ module _ (σ : Store) (U : Setup σ) (L : ℕ) where
       (λ d. rw (c, d)))
       (λ c. rw c)
 
-  -- 1. Installs: a server that has not had its turn finds its channels empty; one that had it has its clock in its entry and in one message to each
+  -- 1. Installs: a server that has not had its turn finds its channels empty, and the others know its clock; one that had it has a clock of L
+  -- or more, and it sent that, or was quiet and the others know it
   abbrev Keep1 : Store → Type 0
   Keep1 τ = record {
     fixed : Fixed τ;
@@ -87,14 +93,25 @@ module _ (σ : Store) (U : Setup σ) (L : ℕ) where
   }
 
   abbrev Todo1 : Call → Store → Type 0
-  Todo1 x τ = record { at : AtServer 9 x; empty : (g : ℕ) → isChannel σ (x .b) (x .a) g ≡ true → τ (Waiting g (x .b) (x .a)) ≡ 0 }
+  Todo1 x τ = record {
+    at : AtServer 9 x;
+    empty : (g : ℕ) → isChannel σ (x .b) (x .a) g ≡ true → τ (Waiting g (x .b) (x .a)) ≡ 0;
+    heard : (g : ℕ) → isChannel σ (x .b) (x .a) g ≡ true → τ (Entry (x .a) (x .b) (x .a)) ≤ τ (Entry g (x .b) (x .a));
+  }
+
+  -- the channel to g for p from h has one message, with a clock of L or more
+  abbrev Told : Store → ℕ → ℕ → ℕ → Type 0
+  Told τ g p h = record { one : τ (Waiting g p h) ≡ 1; sent : L ≤ clockAt τ g p h 0 }
+
+  -- or none, and g knows such a clock
+  abbrev Known : Store → ℕ → ℕ → ℕ → Type 0
+  Known τ g p h = record { none : τ (Waiting g p h) ≡ 0; entry : L ≤ τ (Entry g p h) }
 
   abbrev Done1 : Call → Store → Type 0
   Done1 x τ = record {
     at : AtServer 9 x;
     own : L ≤ τ (Entry (x .a) (x .b) (x .a));
-    one : (g : ℕ) → isChannel σ (x .b) (x .a) g ≡ true → τ (Waiting g (x .b) (x .a)) ≡ 1;
-    sent : (g : ℕ) → isChannel σ (x .b) (x .a) g ≡ true → L ≤ clockAt τ g (x .b) (x .a) 0;
+    others : (g : ℕ) → isChannel σ (x .b) (x .a) g ≡ true → Told τ g (x .b) (x .a) ⊎ Known τ g (x .b) (x .a);
   }
 
   clock-high : (τ : Store) → Keep1 τ → (h p : ℕ) → holds σ h p ≡ true → L ≤ versionClock τ h p
@@ -104,11 +121,17 @@ module _ (σ : Store) (U : Setup σ) (L : ℕ) where
       absurd (K .idle (w .0) p (w .1) (server-small σ U h p e .1) (eqb-true _ _ (and-true (eqb (τ (State (w .0) p)) prepared) _ (w .2) .0))))
       (λ c. rw c (K .high h p e))
 
-  -- a channel of the server gets a message
-  goes : (x : Call) (τ : Store) → Keep1 τ → (g : ℕ) → isChannel σ (x .b) (x .a) g ≡ true → outgoing τ (x .a) (x .b) g (x .b) (x .a) ≡ true
-  goes x τ K g e =
+  -- a channel of the server gets a message, where the install is not quiet
+  goes : (x : Call) (τ : Store) → Keep1 τ → isQuiet τ (x .a) (x .b) ≡ false → (g : ℕ) → isChannel σ (x .b) (x .a) g ≡ true
+      → outgoing τ (x .a) (x .b) g (x .b) (x .a) ≡ true
+  goes x τ K q g e =
       let c = channel-is (x .b) (x .a) g e in
-      outgoing-i τ (x .a) (x .b) g (x .b) (x .a) refl refl (sendsTo-i τ (x .a) (x .b) g (c .2) (K .fixed .1 g (x .b) ∙ c .1))
+      outgoing-i τ (x .a) (x .b) g (x .b) (x .a) refl refl (sendsTo-i τ (x .a) (x .b) g q (c .2) (K .fixed .1 g (x .b) ∙ c .1))
+
+  -- the entry of another for the server stays
+  other-entry : (τ : Store) (h p h′ p′ g : ℕ) → isChannel σ p h g ≡ true → install τ h′ p′ (Entry g p h) ≡ τ (Entry g p h)
+  other-entry τ h p h′ p′ g e =
+      by-cell (Entry h′ p′ h′) (Entry g p h) (λ r c. absurd (channel-is p h g e .2 (sym (r .k) ∙ r .i))) (λ c. rw c)
 
   take1 : (x : Call) (τ : Store) → Keep1 τ → Todo1 x τ → (refusalOf τ x ≡ 0) × (afterOf τ x ≡ install τ (x .a) (x .b))
   unfolding ruleOf
@@ -141,17 +164,24 @@ module _ (σ : Store) (U : Setup σ) (L : ℕ) where
       record {
         at = T .at;
         own = rw (at-same (Entry (x .a) (x .b) (x .a))) high;
-        one = λ g e. rw (goes x τ K g e, T .empty g e);
-        sent = λ g e.
+        others = λ g e. by-test (isQuiet τ (x .a) (x .b))
+            (λ q. let same = quiet-clock τ (x .a) (x .b) q in
+            let known = T .heard g e in
+            inr (record { none = rw (quiet-silent τ (x .a) (x .b) q g (x .b) (x .a)) (T .empty g e); entry = rw (other-entry τ (x .a) (x .b) (x .a) (x .b) g e) (omega arith) }))
+            (λ q. let o = goes x τ K q g e in
             let first : eqb (nextSlot τ g (x .b) (x .a)) (slotOf τ g (x .b) (x .a) 0) ≡ true =
             rw (T .empty g e) (eqb-refl (slotOf τ g (x .b) (x .a) 0)) in
-            rw (goes x τ K g e, first) high;
+            inl (record { one = rw (o, T .empty g e); sent = rw (o, first) high }));
       }
 
   leave1 : (x y : Call) (τ : Store) → Keep1 τ → Todo1 x τ → sameCall x y ≡ false → Todo1 y τ → Todo1 y (install τ (x .a) (x .b))
   leave1 x y τ K T n T′ = record {
     at = T′ .at;
     empty = λ g e. rw (apart 9 x y (T .at) (T′ .at) n (sendsTo τ (x .a) (x .b) g)) (T′ .empty g e);
+    heard = λ g e.
+        by-cell (Entry (x .a) (x .b) (x .a)) (Entry (y .a) (y .b) (y .a))
+        (λ r c. absurd (true≢false (rw (eq-eqb _ _ (r .j), eq-eqb _ _ (r .i)) at (apart 9 x y (T .at) (T′ .at) n true))))
+        (λ c. rw (c, other-entry τ (y .a) (y .b) (x .a) (x .b) g e) (T′ .heard g e));
   }
 
   stay1 : (x y : Call) (τ : Store) → Keep1 τ → Todo1 x τ → sameCall x y ≡ false → Done1 y τ → Done1 y (install τ (x .a) (x .b))
@@ -162,16 +192,23 @@ module _ (σ : Store) (U : Setup σ) (L : ℕ) where
         own = by-test (same (Entry (x .a) (x .b) (x .a)) (Entry (y .a) (y .b) (y .a)))
             (λ c. rw c (clock-high τ K (x .a) (x .b) (T .at .there)))
             (λ c. rw c (D .own));
-        one = λ g e. rw (other g) (D .one g e);
-        sent = λ g e. rw (other g) (D .sent g e);
+        others = λ g e. ⊎-map
+            (λ t. record { one = rw (other g) (t .one); sent = rw (other g) (t .sent) })
+            (λ k. record { none = rw (other g) (k .none); entry = rw (other-entry τ (y .a) (y .b) (x .a) (x .b) g e) (k .entry) })
+            (D .others g e);
       }
 
-  -- 2. Deliveries: a channel that has not had its turn has its one message; one that had it has that message's clock in the entry
+  -- 2. Deliveries: a channel that has not had its turn has its one message; one that had it has that message's clock in the entry. Where the
+  -- store μ after the installs had none, the entry is at L or more all along.
   abbrev InChannel : Call → Type 0
   InChannel x = record { code : x .code ≡ 10; from : holds σ (x .b) (x .a) ≡ true; to : holds σ (x .c) (x .a) ≡ true; other : x .b ≡ x .c → ⊥ }
 
-  abbrev Keep2 : Store → Type 0
-  Keep2 τ = record { fixed : Fixed τ; own : (h p : ℕ) → holds σ h p ≡ true → L ≤ τ (Entry h p h) }
+  abbrev Keep2 : Store → Store → Type 0
+  Keep2 μ τ = record {
+    fixed : Fixed τ;
+    own : (h p : ℕ) → holds σ h p ≡ true → L ≤ τ (Entry h p h);
+    known : (p f g : ℕ) → isChannel σ p f g ≡ true → μ (Waiting g p f) ≡ 0 → L ≤ τ (Entry g p f);
+  }
 
   abbrev Todo2 : Call → Store → Type 0
   Todo2 x τ = record { at : InChannel x; one : τ (Waiting (x .c) (x .a) (x .b)) ≡ 1; sent : L ≤ clockAt τ (x .c) (x .a) (x .b) 0 }
@@ -179,9 +216,9 @@ module _ (σ : Store) (U : Setup σ) (L : ℕ) where
   abbrev Done2 : Call → Store → Type 0
   Done2 x τ = L ≤ τ (Entry (x .c) (x .a) (x .b))
 
-  take2 : (x : Call) (τ : Store) → Keep2 τ → Todo2 x τ → (refusalOf τ x ≡ 0) × (afterOf τ x ≡ deliver τ (x .a) (x .b) (x .c))
+  take2 : (μ : Store) (x : Call) (τ : Store) → Keep2 μ τ → Todo2 x τ → (refusalOf τ x ≡ 0) × (afterOf τ x ≡ deliver τ (x .a) (x .b) (x .c))
   unfolding ruleOf
-  take2 x τ K T =
+  take2 μ x τ K T =
       let f = K .fixed .1 (x .b) (x .a) ∙ T .at .from in
       let t = K .fixed .1 (x .c) (x .a) ∙ T .at .to in
       by-rule τ x (deliverRule τ (x .a) (x .b) (x .c)) (rw (T .at .code)) (rw (f, t, ne-eqb (x .b) (x .c) (T .at .other), T .one))
@@ -191,8 +228,8 @@ module _ (σ : Store) (U : Setup σ) (L : ℕ) where
   entry2 x τ T h p g l =
       by-test (same (Entry (x .c) (x .a) (x .b)) (Entry h p g)) (λ c. rw c (T .sent)) (λ c. rw c l)
 
-  leave2 : (x y : Call) (τ : Store) → Keep2 τ → Todo2 x τ → sameCall x y ≡ false → Todo2 y τ → Todo2 y (deliver τ (x .a) (x .b) (x .c))
-  leave2 x y τ K T n T′ =
+  leave2 : (μ : Store) (x y : Call) (τ : Store) → Keep2 μ τ → Todo2 x τ → sameCall x y ≡ false → Todo2 y τ → Todo2 y (deliver τ (x .a) (x .b) (x .c))
+  leave2 μ x y τ K T n T′ =
       by-cell (Entry (x .c) (x .a) (x .b)) (Entry (y .c) (y .a) (y .b))
       (λ q c. let s : sameCall x y ≡ true =
       rw (eq-eqb _ _ (T .at .code ∙ sym (T′ .at .code)), eq-eqb _ _ (q .j), eq-eqb _ _ (q .k), eq-eqb _ _ (q .i)) in
@@ -261,39 +298,57 @@ module _ (σ : Store) (U : Setup σ) (L : ℕ) where
   server-call n h p e = rw (eqb-refl n, e)
 
   -- the five groups, one after another
-  module _ (i d r s l : List Call) (one-i : EachOnce (atServer σ 9) i) (one-d : EachOnce (inChannel σ) d) (one-r : EachOnce (atServer σ 11) r)
+  module _ (i d r s l : List Call) (one-i : EachOnce (atServer σ 9) i) (one-d : EachOnce (withMessage σ (run σ i)) d) (one-r : EachOnce (atServer σ 11) r)
       (one-s : EachOnce (betweenHalls σ) s) (one-l : EachOnce (atServer σ 13) l) where
     round : Keep1 σ → ((p f g : ℕ) → isChannel σ p f g ≡ true → σ (Waiting g p f) ≡ 0)
+        → ((p f g : ℕ) → isChannel σ p f g ≡ true → σ (Entry f p f) ≤ σ (Entry g p f))
         → AllTaken σ (i ++ (d ++ (r ++ (s ++ l)))) × ((h p : ℕ) → holds σ h p ≡ true → L ≤ run σ (i ++ (d ++ (r ++ (s ++ l)))) (Stable h p))
-    round K empty =
+    round K empty heard =
         let σ1 = run σ i in
         let σ2 = run σ1 d in
         let σ3 = run σ2 r in
         let σ4 = run σ3 s in
         let w1 = phase (λ τ x. install τ (x .a) (x .b)) Keep1 Todo1 Done1 take1 keep1 make1 leave1 stay1 (atServer σ 9) i σ one-i K
-        (λ y e. record { at = at-server 9 y e; empty = empty (y .b) (y .a) }) in
-        let w2 = phase (λ τ x. deliver τ (x .a) (x .b) (x .c)) Keep2 Todo2 Done2 take2
-        (λ x τ k t. record { fixed = k .fixed; own = λ h p e. entry2 x τ t h p h (k .own h p e) })
+        (λ y e. record { at = at-server 9 y e; empty = empty (y .b) (y .a); heard = heard (y .b) (y .a) }) in
+        let others : (p f g : ℕ) → isChannel σ p f g ≡ true → Told σ1 g p f ⊎ Known σ1 g p f =
+        λ p f g e. w1 .2 (call 9 f p 0) (server-call 9 f p (channel-is p f g e .0)) .others g e in
+        let w2 = phase (λ τ x. deliver τ (x .a) (x .b) (x .c)) (Keep2 σ1) Todo2 Done2 (take2 σ1)
+        (λ x τ k t. record {
+          fixed = k .fixed;
+          own = λ h p e. entry2 x τ t h p h (k .own h p e);
+          known = λ p f g e z. entry2 x τ t g p f (k .known p f g e z);
+        })
         (λ x τ k t. rw (at-same (Entry (x .c) (x .a) (x .b))) (t .sent))
-        leave2
+        (leave2 σ1)
         (λ x y τ k t n e. entry2 x τ t (y .c) (y .a) (y .b) e)
-        (inChannel σ) d σ1 one-d (record { fixed = w1 .1 .fixed; own = λ h p e. w1 .2 (call 9 h p 0) (server-call 9 h p e) .own })
+        (withMessage σ σ1) d σ1 one-d
+        (record {
+          fixed = w1 .1 .fixed;
+          own = λ h p e. w1 .2 (call 9 h p 0) (server-call 9 h p e) .own;
+          known = λ p f g e z. ⊎-elim (λ t. let o = t .one in absurd (omega arith)) (λ k. k .entry) (others p f g e);
+        })
         (λ y e.
-        let v = and-true (eqb (y .code) 10) _ e in
+        let u = and-true (inChannel σ y) _ e in
+        let v = and-true (eqb (y .code) 10) _ (u .0) in
         let c = channel-is (y .a) (y .b) (y .c) (v .1) in
-        let m = w1 .2 (call 9 (y .b) (y .a) 0) (server-call 9 (y .b) (y .a) (c .0)) in
-        record {
+        ⊎-elim
+        (λ t. record {
           at = record { code = eqb-true (y .code) 10 (v .0); from = c .0; to = c .1; other = c .2 };
-          one = m .one (y .c) (v .1);
-          sent = m .sent (y .c) (v .1);
-        }) in
+          one = t .one;
+          sent = t .sent;
+        })
+        (λ k. absurd (false≢true (rw (k .none) at (u .1))))
+        (others (y .a) (y .b) (y .c) (v .1))) in
         let w3 = cells-phase L (λ x. Note (x .a) (x .b)) (λ τ x. lowestEntry τ (x .a) (x .b)) Keep3 (AtServer 11) take3 (λ x τ k a. k) note-high
         (atServer σ 11) r σ2 one-r
         (record {
           fixed = w2 .1 .fixed;
           full = λ h p g e e′. by-eq h g
               (λ q _. rw (← q) (w2 .1 .own h p e))
-              (λ q _. w2 .2 (call 10 p g h) (channel-i p g h e′ e (λ x. q (sym x))));
+              (λ q _. let c = channel-i p g h e′ e (λ x. q (sym x)) in
+              by-eq (σ1 (Waiting h p g)) 0
+              (λ z _. w2 .1 .known p g h c z)
+              (λ _ z. w2 .2 (call 10 p g h) (rw (c, z))));
         })
         (at-server 11) in
         let w4 = cells-phase L (λ x. Shared (x .b) (x .a)) (λ τ x. lowestOf τ (x .a)) Keep4 BetweenHalls take4 (λ x τ k a. k) share-high
@@ -309,18 +364,20 @@ module _ (σ : Store) (U : Setup σ) (L : ℕ) where
               (w5 .2 (call 13 h p 0) (server-call 13 h p e)),
         )
 
--- Take a reached store with no prepared transaction and empty channels. An install at each server, a delivery in each channel, a report of
--- each server, a share from each hall to each, a learn at each server, in any order inside each of these five groups and nothing between: none
--- of them is turned away, and every stable time is then at least L.
+-- Take a reached store with no prepared transaction and empty channels. An install at each server, a delivery in each channel that then holds a
+-- message, a report of each server, a share from each hall to each, a learn at each server, in any order inside each of these five groups and
+-- nothing between: none of them is turned away, and every stable time is then at least L. "In the full round, an install that sends nothing needs
+-- no delivery."
 pub full-round : {σ : Store} → Reached σ
     → ((t p : ℕ) → t < placesMax → p < partitionsMax → σ (State t p) ≡ prepared → ⊥)
     → ((p f g : ℕ) → isChannel σ p f g ≡ true → σ (Waiting g p f) ≡ 0)
-    → (i d r s l : List Call) → EachOnce (atServer σ 9) i → EachOnce (inChannel σ) d → EachOnce (atServer σ 11) r
+    → (i d r s l : List Call) → EachOnce (atServer σ 9) i → EachOnce (withMessage σ (run σ i)) d → EachOnce (atServer σ 11) r
     → EachOnce (betweenHalls σ) s → EachOnce (atServer σ 13) l
     → AllTaken σ (i ++ (d ++ (r ++ (s ++ l))))
     × ((h p : ℕ) → holds σ h p ≡ true → lowestPresent σ ≤ run σ (i ++ (d ++ (r ++ (s ++ l)))) (Stable h p))
 full-round {σ} reached idle empty i d r s l a b c e f =
-    let U = reached-inv reached .setup in
+    let I = reached-inv reached in
+    let U = I .setup in
     round σ U (lowestPresent σ) i d r s l a b c e f
     (record {
       fixed = (refl, λ h p. refl);
@@ -331,3 +388,4 @@ full-round {σ} reached idle empty i d r s l a b c e f =
           le-trans x (lowest-le partitionsMax (λ p. holds σ h p) (λ p. present σ h p) p (server-small σ U h p k .1) k);
     })
     empty
+    (λ p f g k. let w = channel-is σ U (lowestPresent σ) p f g k in I .channels .heard g p f (w .2) (w .1) (empty p f g k))

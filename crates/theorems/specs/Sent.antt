@@ -1,6 +1,6 @@
 -- Install: the channels and the versions held after it.
 use Prim.Native.Nat.{ℕ, suc, _+_, _%_, _≤_, _<_}
-use mathlib.Core.Bool.{true, false, _&&_, not}
+use mathlib.Core.Bool.{true, false, _&&_, not, true≢false}
 use mathlib.Core.Path.{_≡_, sym, _∙_}
 use mathlib.Core.Logic.{inr, ⊎-map}
 use native.Mathlib.Nat.{le-trans, le-refl}
@@ -12,7 +12,7 @@ use Rattle.book.specs.Cells.{Store, Entry, Held, CommitTime, installed, First, 
 use Rattle.book.specs.Cases.{by-test, by-eq, by-cell, and-true, eqb-refl, at-same}
 use Rattle.book.specs.Sets.{member, setOf, member-setOf}
 use Rattle.book.specs.Servers.{holds, partitionOf, writer}
-use Rattle.book.specs.ReplicationSteps.{versionClock, installs, isQuiet, sendsTo, outgoing, slotOf, nextSlot, install}
+use Rattle.book.specs.ReplicationSteps.{versionClock, installs, numberInstalled, isQuiet, sendsTo, outgoing, slotOf, nextSlot, install}
 use Rattle.theorems.specs.Inv.{clockAt, setAt, Channels, Holding, Writes, Inv}
 use Rattle.theorems.specs.Setup.{server-small}
 use Rattle.theorems.specs.Gossip.{grow-gossip}
@@ -23,14 +23,24 @@ use Rattle.theorems.specs.Install.{installs-is, has-place, clock-grows, 
 slot-old : (a i c : ℕ) → i < c → c < slots → eqb ((a + c) % slots) ((a + i) % slots) ≡ false
 slot-old a i c l b = ne-eqb ((a + c) % slots) ((a + i) % slots) (λ (e : (a + c) % slots ≡ (a + i) % slots). omega arith)
 
+-- a quiet install leaves the version clock; so one that moves it is not quiet
+pub quiet-clock : (σ : Store) (h p : ℕ) → isQuiet σ h p ≡ true → versionClock σ h p ≡ σ (Entry h p h)
+quiet-clock σ h p e = eqb-true (versionClock σ h p) (σ (Entry h p h)) (and-true (eqb (numberInstalled σ h p) 0) _ e .1)
+
+loud : (σ : Store) (h p : ℕ) → σ (Entry h p h) < versionClock σ h p → isQuiet σ h p ≡ false
+loud σ h p l =
+    by-test (isQuiet σ h p)
+    (λ c. let q = quiet-clock σ h p c in absurd (omega arith))
+    (λ c. c)
+
 -- whom a message goes to
 pub sendsTo-is : (σ : Store) (h p g : ℕ) → sendsTo σ h p g ≡ true → (h ≡ g → ⊥) × (holds σ g p ≡ true)
 sendsTo-is σ h p g e =
     let c = and-true (not (eqb h g)) _ (and-true (not (isQuiet σ h p)) _ e .1) in
     (eqb-false h g (not-true (eqb h g) (c .0)), c .1)
 
-pub sendsTo-i : (σ : Store) (h p g : ℕ) → (h ≡ g → ⊥) → holds σ g p ≡ true → sendsTo σ h p g ≡ true
-sendsTo-i σ h p g n e = rw (ne-eqb h g n, e)
+pub sendsTo-i : (σ : Store) (h p g : ℕ) → isQuiet σ h p ≡ false → (h ≡ g → ⊥) → holds σ g p ≡ true → sendsTo σ h p g ≡ true
+sendsTo-i σ h p g q n e = rw (q, ne-eqb h g n, e)
 
 pub outgoing-is : (σ : Store) (h p g q f : ℕ) → outgoing σ h p g q f ≡ true → (p ≡ q) × (h ≡ f) × (sendsTo σ h p g ≡ true)
 outgoing-is σ h p g q f e =
@@ -40,6 +50,13 @@ outgoing-is σ h p g q f e =
 
 pub outgoing-i : (σ : Store) (h p g q f : ℕ) → p ≡ q → h ≡ f → sendsTo σ h p g ≡ true → outgoing σ h p g q f ≡ true
 outgoing-i σ h p g q f a b c = rw (eq-eqb p q a, eq-eqb h f b, c)
+
+-- a quiet install sends none
+pub quiet-silent : (σ : Store) (h p : ℕ) → isQuiet σ h p ≡ true → (g q f : ℕ) → outgoing σ h p g q f ≡ false
+quiet-silent σ h p e g q f =
+    by-test (outgoing σ h p g q f)
+    (λ c. absurd (true≢false (sym e ∙ not-true (isQuiet σ h p) (and-true (not (isQuiet σ h p)) _ (outgoing-is σ h p g q f c .2) .0))))
+    (λ c. c)
 
 module _ (σ : Store) (I : Inv σ) (h p : ℕ) (room : (g : ℕ) → g < hallsMax → sendsTo σ h p g ≡ true → σ (Waiting g p h) < slots) where
   has-room : (g q f : ℕ) → outgoing σ h p g q f ≡ true → σ (Waiting g q f) < slots
@@ -80,6 +97,16 @@ module _ (σ : Store) (I : Inv σ) (h p : ℕ) (room : (g : ℕ) → g < hallsMa
   install-other : (g q f : ℕ) → (f ≡ g → ⊥) → install σ h p (Entry g q f) ≡ σ (Entry g q f)
   install-other g q f n = by-cell (Entry h p h) (Entry g q f) (λ r c. absurd (n (sym (r .k) ∙ r .i))) (λ c. rw c)
 
+  -- where no message goes to another holder, neither has the sender's version clock moved
+  own-stays : (g q f : ℕ) → (f ≡ g → ⊥) → holds σ g q ≡ true → outgoing σ h p g q f ≡ false → install σ h p (Entry f q f) ≡ σ (Entry f q f)
+  own-stays g q f n k o =
+      by-cell (Entry h p h) (Entry f q f)
+      (λ r c. by-test (isQuiet σ h p)
+      (λ z. rw (c, ← r .i, ← r .j) (quiet-clock σ h p z))
+      (λ z. let x = outgoing-i σ h p g q f (r .j) (r .i) (sendsTo-i σ h p g z (rw (r .i) n) (rw (r .j) k)) in
+      absurd (true≢false (sym x ∙ o))))
+      (λ c. rw c)
+
   pub install-channels : Channels (install σ h p)
   install-channels = record {
     seen = λ g q f.
@@ -116,6 +143,18 @@ module _ (σ : Store) (I : Inv σ) (h p : ℕ) (room : (g : ℕ) → g < hallsMa
         let x : clockAt σ g q f i ≤ σ (Entry h p h) = rw (a, b) (I .channels .high g q f i n l′) in
         let y = moving t (rw s at e) in
         rw (old-clock g q f i l′) (omega arith));
+    heard = λ g q f n k w.
+        by-test (outgoing σ h p g q f)
+        (λ o. let w′ = rw o at w in absurd (omega arith))
+        (λ o. rw (own-stays g q f n k o, install-other g q f n) (I .channels .heard g q f n k (rw o at w)));
+    newest = λ g q f i n k w.
+        by-test (outgoing σ h p g q f)
+        (λ o. let w′ : suc i ≡ suc (σ (Waiting g q f)) = rw o at w in
+        by-message g q f i (omega arith)
+        (λ l c s. absurd (omega arith))
+        (λ e a b c s. rw (c, ← a, ← b, at-same (Entry h p h)) (le-refl _)))
+        (λ o. let w′ : suc i ≡ σ (Waiting g q f) = rw o at w in
+        rw (own-stays g q f n k o, old-clock g q f i (omega arith)) (I .channels .newest g q f i n k w′));
   }
     where
       moving : (t : ℕ) → member (setOf placesMax (installs σ h p)) t ≡ true → σ (Entry h p h) < σ (CommitTime t)
@@ -143,7 +182,8 @@ module _ (σ : Store) (I : Inv σ) (h p : ℕ) (room : (g : ℕ) → g < hallsMa
         let q = eqb-true p p′ (a .0) in
         let m = installs-is σ h p t (a .1) in
         let w : h ≡ writer σ t p′ = rw (← q) (sym (m .1)) in
-        let o = outgoing-i σ h p g p′ (writer σ t p′) q w (sendsTo-i σ h p g (λ x. n (sym w ∙ x)) (rw q k)) in
+        let z : isQuiet σ h p ≡ false = let x = rw (m .1) at (I .clocks .waits t p (m .0)) in loud σ h p (omega arith) in
+        let o = outgoing-i σ h p g p′ (writer σ t p′) q w (sendsTo-i σ h p g z (λ x. n (sym w ∙ x)) (rw q k)) in
         let b = has-place σ I t p (omega arith) in
         inr (
           σ (Waiting g p′ (writer σ t p′)),

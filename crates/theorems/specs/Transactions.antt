@@ -80,6 +80,8 @@ module _ (σ : Store) (I : Inv σ) where
             order = I .channels .order;
             fresh = λ g p f i t′ n l e. le-trans (I .channels .fresh g p f i t′ n l e) (grows t′);
             later = λ g p f i j t′ n l m e. le-trans (I .channels .later g p f i j t′ n l m e) (grows t′);
+            heard = I .channels .heard;
+            newest = I .channels .newest;
           };
           holding = record {
             home = I .holding .home;
