@@ -1,18 +1,19 @@
 // "Turned away": for each step the first number that applies, 0 where none does. The numbers are any.
 ghost use mathlib.Core.Path.{_≡_};
-ghost use Prim.Native.Nat.{_<_};
+ghost use Prim.Native.Nat.{ℕ, _<_};
 ghost use mathlib.Core.Bool.{cond, _&&_, _||_};
 ghost use lib.ListN.{length};
-ghost use lib.Dec.{eqb, ltb, leb};
+ghost use lib.Dec.{eqb, ltb};
 ghost use Rattle.book.specs.Refusals.{tickRefusal, startRefusal, readRefusal, writeRefusal, endRefusal, prepareRefusal, decideRefusal, commitRefusal, installRefusal, deliverRefusal, serverRefusal, shareRefusal, moveRefusal, sessionThere, transactionThere, unused, allPrepared};
-ghost use Rattle.book.specs.Sizes.{hallsMax, partitionsMax, keys, placesMax, slots};
-ghost use Rattle.book.specs.Cells.{Partitions, State, prepared, Waiting};
+ghost use Rattle.book.specs.Sizes.{hallsMax, partitionsMax, keys, placesMax};
+ghost use Rattle.book.specs.Cells.{Partitions, State, prepared};
 ghost use Rattle.book.specs.Folds.{any};
 ghost use Rattle.book.specs.Servers.{holds, partitionOf};
-ghost use Rattle.book.specs.ReplicationSteps.{sendsTo};
 ghost use Rattle.room.specs.Layout.{size, store};
 ghost use Rattle.book.specs.Steps.{refusal as refusalOf};
+ghost use Rattle.replication.specs.Safe.{Coordinated, Timely};
 ghost use Rattle.ladders.specs.Sized.{Sized};
+ghost use Rattle.ladders.specs.Full.{fullTo};
 use book::READING_MAX;
 use room::COMMIT_TIME;
 use room::HALLS;
@@ -176,13 +177,17 @@ pub fn decide(room: &[u64], n: u64, y: u64, z: u64) -> u64
 }
 
 pub fn install(room: &[u64], h: u64, p: u64, z: u64) -> u64
-    requires { ⌜ (length (now room) ≡ size) × Sized (store (now room)) ⌝ }
+    requires { ⌜ (length (now room) ≡ size) × Sized (store (now room)) × Coordinated (store (now room)) × ((q : ℕ) → q < partitionsMax → Timely (store (now room)) q) ⌝ }
     ensures { λ r. ⌜ r ≡ installRefusal (store (now (room .entry))) h p z ⌝ }
 {
     if !both(server_there(room, h, p), z == 0) {
         return 3;
     }
-    when(channel_full(room, h as usize, p as usize), 10, 0)
+    // first what costs little: whether the install is quiet is asked only where a channel is full
+    if !channel_full(room, h as usize, p as usize) {
+        return 0;
+    }
+    when(!replication::is_quiet(room, h as usize, p as usize), 10, 0)
 }
 
 pub fn deliver(room: &[u64], p: u64, f: u64, g: u64) -> u64
@@ -265,17 +270,17 @@ fn all_prepared(room: &[u64], t: usize) -> bool
 // the channel from h to g holds 8 messages, where there is one
 fn full_to(room: &[u64], h: usize, p: usize, g: usize) -> bool
     requires { ⌜ (length (now room) ≡ size) × (h < hallsMax) × (p < partitionsMax) × (g < hallsMax) ⌝ }
-    ensures { λ r. ⌜ r ≡ (sendsTo (store (now (room .entry))) h p g && leb slots (store (now (room .entry)) (Waiting g p h))) ⌝ }
+    ensures { λ r. ⌜ r ≡ fullTo (store (now (room .entry))) h p g ⌝ }
 {
     both(
-        both(h != g, servers::holds(room, g, p)),
+        replication::other_holder(room, h, p, g),
         8 <= room::get(room, WAITING, g, p, h, 0),
     )
 }
 
 fn channel_full(room: &[u64], h: usize, p: usize) -> bool
     requires { ⌜ (length (now room) ≡ size) × (h < hallsMax) × (p < partitionsMax) ⌝ }
-    ensures { λ r. ⌜ r ≡ any hallsMax (λ g. sendsTo (store (now (room .entry))) h p g && leb slots (store (now (room .entry)) (Waiting g p h))) ⌝ }
+    ensures { λ r. ⌜ r ≡ any hallsMax (fullTo (store (now (room .entry))) h p) ⌝ }
 {
     either(
         full_to(room, h, p, 3),
@@ -291,7 +296,7 @@ fn channel_full(room: &[u64], h: usize, p: usize) -> bool
 
 // the number given to a step, 0 where it is taken
 pub fn refusal(room: &[u64], code: u64, a: u64, b: u64, c: u64) -> u64
-    requires { ⌜ (length (now room) ≡ size) × Sized (store (now room)) ⌝ }
+    requires { ⌜ (length (now room) ≡ size) × Sized (store (now room)) × Coordinated (store (now room)) × ((q : ℕ) → q < partitionsMax → Timely (store (now room)) q) ⌝ }
     ensures { λ r. ⌜ r ≡ refusalOf (store (now (room .entry))) code a b c ⌝ }
 {
     match code {

@@ -7,8 +7,8 @@ use lib.Dec.{eqb}
 use Rattle.book.specs.Sizes.{hallsMax, slots}
 use Rattle.book.specs.Cells.{Store, _⟨_≔_⟩, Entry, First, Waiting}
 use Rattle.book.specs.Cases.{eqb-refl}
+use Rattle.book.specs.Updates.{keep, upd, commute}
 use Rattle.book.specs.ReplicationSteps.{slotOf, clockCarried, setCarried, deliver}
-use Rattle.room.specs.Updates.{keep, upd, commute}
 use Rattle.room.specs.Stretch.{heldAll, withEntries}
 use Rattle.vectors.specs.Vectors.{time, vectorOf, updatedAt}
 use Rattle.replication.specs.declared.Message.{Message}

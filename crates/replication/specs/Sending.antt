@@ -9,9 +9,9 @@ use borrow.Author.Tests.{ltb-false}
 use Rattle.book.specs.Sizes.{hallsMax}
 use Rattle.book.specs.Cells.{Cell, Store, _⟨_≔_⟩, each3, each4, Waiting, ClockSent, Carries}
 use Rattle.book.specs.Cases.{by-test}
-use Rattle.book.specs.ReplicationSteps.{sendsTo, nextSlot}
+use Rattle.book.specs.Updates.{upd, commute}
+use Rattle.book.specs.ReplicationSteps.{otherHolder, nextSlot}
 use Rattle.room.specs.Layout.{store}
-use Rattle.room.specs.Updates.{upd, commute}
 use Rattle.room.specs.Bulk.{Row, row3i, row4i, upTo, begin, ahead, puts, skips}
 use Rattle.servers.specs.Holders.{none-beyond}
 use Rattle.replication.specs.Safe.{Channel}
@@ -23,9 +23,9 @@ sent σ h p g c m =
     ⟨ Carries g p h (nextSlot σ g p h) ≔ m ⟩
     ⟨ Waiting g p h ≔ suc (σ (Waiting g p h)) ⟩
 
--- where one is sent
+-- where g is another holder
 abbrev pub sentIf : Store → ℕ → ℕ → ℕ → ℕ → ℕ → Store
-sentIf σ h p g c m = cond (sendsTo σ h p g) (sent σ h p g c m) σ
+sentIf σ h p g c m = cond (otherHolder σ h p g) (sent σ h p g c m) σ
 
 -- the store τ with a message to each hall that passes, from server (h, p), at the slots that are next in the store σ
 abbrev pub messagesTo : (ℕ → Bool) → Store → ℕ → ℕ → ℕ → ℕ → Store → Store
@@ -34,9 +34,9 @@ messagesTo ok σ h p c m τ =
     (each4 Carries (λ g q f n. (eqb p q && (eqb h f && ok g)) && eqb (nextSlot σ g q f) n) (λ g q f n. m)
     (each3 Waiting (λ g q f. eqb p q && (eqb h f && ok g)) (λ g q f. suc (σ (Waiting g q f))) τ))
 
--- to each that one is sent to
+-- to each other holder
 abbrev pub messages : Store → ℕ → ℕ → ℕ → ℕ → Store → Store
-messages σ h p c m τ = messagesTo (sendsTo σ h p) σ h p c m τ
+messages σ h p c m τ = messagesTo (otherHolder σ h p) σ h p c m τ
 
 -- either way of a test comes to z
 pick : {A : Type 0} (b : Bool) (x y z : A) → (b ≡ true → x ≡ z) → (b ≡ false → y ≡ z) → cond b x y ≡ z
@@ -46,7 +46,7 @@ pick false x y z f g = g refl
 module _ (σ : Store) (h p c m : ℕ) where
   -- the rows of a message's clock, of its set and of the counts, and what a count becomes
   abbrev to : Cell → Bool
-  to d = sendsTo σ h p (d .i)
+  to d = otherHolder σ h p (d .i)
 
   abbrev clockRow : Row
   clockRow = row4i 30 p h (nextSlot σ)
@@ -87,7 +87,7 @@ module _ (σ : Store) (h p c m : ℕ) where
   channel-ahead n C = record { first = C .first; waiting = rw (same-waiting n) (C .waiting) }
 
   -- the three puts of a round, each in its own row
-  sends : (n : ℕ) → sendsTo σ h p n ≡ true
+  sends : (n : ℕ) → otherHolder σ h p n ≡ true
       → sentBelow n
       ⟨ ClockSent n p h (nextSlot σ n p h) ≔ c ⟩
       ⟨ Carries n p h (nextSlot σ n p h) ≔ m ⟩
@@ -105,18 +105,18 @@ module _ (σ : Store) (h p c m : ℕ) where
       ∙ ap (clocks (n + 1)) (commute 29 31 _ _ _ _ _ refl ∙ ap (sets (n + 1)) z)
 
   -- a round that sends nothing
-  skipped : (n : ℕ) → sendsTo σ h p n ≡ false → sentBelow n ≡ sentBelow (n + 1)
+  skipped : (n : ℕ) → otherHolder σ h p n ≡ false → sentBelow n ≡ sentBelow (n + 1)
   skipped n e =
       skips clockRow to (λ d. c) n (sets n (counts n σ)) e
       ∙ ap (clocks (n + 1)) (skips setRow to (λ d. m) n (counts n σ) e ∙ ap (sets (n + 1)) (skips countRow to oneMore n σ e))
 
   -- a round
   pub sent-next : (n : ℕ) → sentIf (sentBelow n) h p n c m ≡ sentBelow (n + 1)
-  sent-next n = pick (sendsTo σ h p n) _ _ _ (λ e. rw (same-waiting n) (sends n e)) (skipped n)
+  sent-next n = pick (otherHolder σ h p n) _ _ _ (λ e. rw (same-waiting n) (sends n e)) (skipped n)
 
 module _ (r : List ℕ) (h p c m : ℕ) where
   -- a room has no hall past its last
-  each-hall : (g : ℕ) → (ltb g hallsMax && sendsTo (store r) h p g) ≡ sendsTo (store r) h p g
+  each-hall : (g : ℕ) → (ltb g hallsMax && otherHolder (store r) h p g) ≡ otherHolder (store r) h p g
   each-hall g =
       by-test (ltb g hallsMax)
       (λ e. rw e)

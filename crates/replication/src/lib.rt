@@ -8,14 +8,14 @@ ghost use Rattle.book.specs.Sizes.{hallsMax, partitionsMax, placesMax, slots};
 ghost use Rattle.book.specs.Cells.{State, Proposed, First, Waiting};
 ghost use Rattle.book.specs.Sets.{include, setOf};
 ghost use Rattle.book.specs.Servers.{writer};
-ghost use Rattle.book.specs.ReplicationSteps.{preparedAt, versionClock, sendsTo, numberInstalled, install as installedStore, clockCarried, numberCarried, deliver as deliveredStore};
+ghost use Rattle.book.specs.ReplicationSteps.{preparedAt, versionClock, numberInstalled, isQuiet, otherHolder, install as installedStore, clockCarried, numberCarried, deliver as deliveredStore};
 ghost use Rattle.room.specs.Layout.{size, store};
 ghost use Rattle.times.specs.Lowest.{joined};
-ghost use Rattle.clocks.specs.Clocks.{clockOf};
 ghost use Rattle.replication.specs.Safe.{Coordinated, Channel, Timely, Outgoing};
 ghost use Rattle.replication.specs.ClockAfter.{lowestProposed, installedClock};
 ghost use Rattle.replication.specs.Installing.{due, marked};
 ghost use Rattle.replication.specs.Sending.{sent, sentIf, messages};
+ghost use Rattle.replication.specs.Installed.{outcomeOf};
 ghost use Rattle.replication.specs.Delivering.{carried, freed};
 use book::Answer;
 use book::Clock;
@@ -80,14 +80,6 @@ fn installed(mut c: Clock, l: Lowest) -> Clock
     }
 }
 
-// The clock of server (h, p) after an install.
-fn clock_after(room: &[u64], h: usize, p: usize) -> Clock
-    requires { ⌜ (length (now room) ≡ size) × (h < hallsMax) × (p < partitionsMax) × Coordinated (store (now room)) × Timely (store (now room)) p ⌝ }
-    ensures { λ r. ⌜ r ≡ installedClock (clockOf (store (now (room .entry))) h p) (lowestProposed (store (now (room .entry))) h p placesMax) ⌝ }
-{
-    installed(clocks::take(room, h, p), lowest_prepared(room, h, p))
-}
-
 // "Every waiting transaction with commit time at or below the version clock"
 fn is_due(room: &[u64], h: usize, p: usize, version: Timestamp, t: usize) -> bool
     requires { ⌜ (length (now room) ≡ size) × (p < partitionsMax) × (t < placesMax) × Coordinated (store (now room)) ⌝ }
@@ -119,6 +111,45 @@ fn due_set(room: &[u64], h: usize, p: usize, version: Timestamp) -> u64
     set
 }
 
+// What an install comes to: the server's clock after it, the set of those it installs, their number, and whether it is quiet.
+struct Outcome {
+    clock: Clock,
+    set: u64,
+    number: u64,
+    quiet: bool,
+}
+
+// Document 02, b: "An install that installs nothing and leaves the version clock where it was shall send no message"
+fn says_nothing(number: u64, before: Clock, after: Clock) -> bool
+    ensures { λ r. ⌜ r ≡ (eqb number 0 && eqb (after .version .0) (before .version .0)) ⌝ }
+{
+    number == 0 && after.version.0 == before.version.0
+}
+
+// Worked out before anything is written: "where it was" is the server's own entry before the step.
+fn outcome_of(room: &[u64], h: usize, p: usize) -> Outcome
+    requires { ⌜ (length (now room) ≡ size) × (h < hallsMax) × (p < partitionsMax) × Coordinated (store (now room)) × Timely (store (now room)) p ⌝ }
+    ensures { λ r. ⌜ r ≡ outcomeOf (store (now (room .entry))) h p ⌝ }
+{
+    let before = clocks::take(room, h, p);
+    let clock = installed(before, lowest_prepared(room, h, p));
+    let set = due_set(room, h, p, clock.version);
+    let number = masks::count(set);
+    Outcome {
+        clock,
+        set,
+        number,
+        quiet: says_nothing(number, before, clock),
+    }
+}
+
+pub fn is_quiet(room: &[u64], h: usize, p: usize) -> bool
+    requires { ⌜ (length (now room) ≡ size) × (h < hallsMax) × (p < partitionsMax) × Coordinated (store (now room)) × Timely (store (now room)) p ⌝ }
+    ensures { λ r. ⌜ r ≡ isQuiet (store (now (room .entry))) h p ⌝ }
+{
+    outcome_of(room, h, p).quiet
+}
+
 fn mark_installed(room: &mut [u64], p: usize, set: u64)
     requires { ⌜ (length (now room) ≡ size) × (p < partitionsMax) ⌝ }
     ensures { λ r. ⌜ (length (now (room .exit)) ≡ size) × (store (now (room .exit)) ≡ marked p set (store (now (room .entry)))) ⌝ }
@@ -146,9 +177,9 @@ fn send(room: &mut [u64], h: usize, p: usize, g: usize, m: Message)
     room::put(room, WAITING, g, p, h, 0, waiting + 1);
 }
 
-fn sends_to(room: &[u64], h: usize, p: usize, g: usize) -> bool
+pub fn other_holder(room: &[u64], h: usize, p: usize, g: usize) -> bool
     requires { ⌜ length (now room) ≡ size ⌝ }
-    ensures { λ r. ⌜ r ≡ sendsTo (store (now (room .entry))) h p g ⌝ }
+    ensures { λ r. ⌜ r ≡ otherHolder (store (now (room .entry))) h p g ⌝ }
 {
     h != g && servers::holds(room, g, p)
 }
@@ -157,7 +188,7 @@ fn send_to(room: &mut [u64], h: usize, p: usize, g: usize, m: Message)
     requires { ⌜ (length (now room) ≡ size) × (h < hallsMax) × (p < partitionsMax) × (g < hallsMax) × Channel (store (now room)) g p h ⌝ }
     ensures { λ r. ⌜ (length (now (room .exit)) ≡ size) × (store (now (room .exit)) ≡ sentIf (store (now (room .entry))) h p g (m .clock .0) (m .set)) ⌝ }
 {
-    if sends_to(room, h, p, g) {
+    if other_holder(room, h, p, g) {
         send(room, h, p, g, m);
     }
 }
@@ -177,14 +208,14 @@ pub fn install(room: &mut [u64], h: usize, p: usize) -> Answer
     requires { ⌜ (length (now room) ≡ size) × (h < hallsMax) × (p < partitionsMax) × Coordinated (store (now room)) × Timely (store (now room)) p × Outgoing (store (now room)) h p ⌝ }
     ensures { λ r. ⌜ (length (now (room .exit)) ≡ size) × (r ≡ Answer.Answered (versionClock (store (now (room .entry))) h p) (numberInstalled (store (now (room .entry))) h p)) × (store (now (room .exit)) ≡ installedStore (store (now (room .entry))) h p) ⌝ }
 {
-    let c = clock_after(room, h, p);
-    let clock = c.version;
-    let set = due_set(room, h, p, clock);
-    room::stretch::install(room, h, p, c.hybrid, clock, set);
-    mark_installed(room, p, set);
-    // No install is quiet: a message goes out "even if empty".
-    send_to_all(room, h, p, Message { clock, set });
-    Answer::Answered(clock.0, masks::count(set))
+    let o = outcome_of(room, h, p);
+    let clock = o.clock.version;
+    room::stretch::install(room, h, p, o.clock.hybrid, clock, o.set);
+    mark_installed(room, p, o.set);
+    if !o.quiet {
+        send_to_all(room, h, p, Message { clock, set: o.set });
+    }
+    Answer::Answered(clock.0, o.number)
 }
 
 // The oldest message of the channel to g for p from f.

@@ -7,5 +7,4 @@ full-to-spec = tie.close (tie.spec
     (λ c κs. search needs)
     (λ c κs. search needs)
     (λ c κs. search needs)
-    (λ c κs. search needs)
-    (λ c. rw (c .both2 .ensures, c .before .get .ensures, c .before .before .both .ensures, c .before .before .before .holds .ensures)))
+    (λ c. rw (c .both .ensures, c .before .get .ensures, c .before .before .other-holder .ensures)))

@@ -9,6 +9,6 @@ send-to-spec =
     (λ c κs. search needs)
     (λ c κs. search needs)
     (λ c. search needs)
-    (λ c. (c .before .before .send .ensures .0, rw (← (c .before .before .before .before .before .sends-to .ensures), c .before .before .before .before .if1 .taken) (c .before .before .send .ensures .1)))
+    (λ c. (c .before .before .send .ensures .0, rw (← (c .before .before .before .before .before .other-holder .ensures), c .before .before .before .before .if1 .taken) (c .before .before .send .ensures .1)))
     (λ c. search needs)
-    (λ c. (c .before .before .before .before .pre .0, rw (← (c .before .sends-to .ensures), c .if1 .left))))
+    (λ c. (c .before .before .before .before .pre .0, rw (← (c .before .other-holder .ensures), c .if1 .left))))

@@ -1,7 +1,7 @@
 use mathlib.Core.Path.{sym, _∙_}
 use Rattle.theorems.specs.WellFormedKept.{well-formed-kept}
 use Rattle.room.specs.Layout.{store}
-use Rattle.store.specs.Granted.{sized}
+use Rattle.store.specs.Granted.{sized, coordinated-all, timely}
 use Rattle.store.specs.Face.{turned-away, taken}
 use borrow.Author.Needs.{needs}
 use Rattle.store.proofs.step_inner.Statement.{statement}
@@ -9,7 +9,7 @@ use Rattle.store.proofs.step_inner.Tie as tie
 
 pub step-inner-spec : {M : Type 1} → statement M
 step-inner-spec = tie.close (tie.spec
-    (λ c κs. (c .before .before .pre .0, sized (store (c .before .before .args .room .now)) (c .before .before .pre .1)))
+    (λ c κs. let s = c .before .before in let σ = store (s .args .room .now) in let w = s .pre .1 in (s .pre .0, sized σ w, coordinated-all σ w, timely σ w))
     (λ c. search needs)
     (λ c. let s = c .before .before .before .before in let a = s .args in let t = turned-away (store (a .room .now)) (a .code) (a .a) (a .b) (a .c) (c .before .refusal .result) (c .before .refusal .ensures) (c .if1 .taken) in record { size = s .pre .0; formed = s .pre .1; answer = t .0; store = t .1 })
     (λ c κs. search needs)

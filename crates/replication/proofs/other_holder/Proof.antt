@@ -1,10 +1,10 @@
 use borrow.Author.Tests.{eq-eqb, ne-eqb}
 use borrow.Author.Needs.{needs}
-use Rattle.replication.proofs.sends_to.Statement.{statement}
-use Rattle.replication.proofs.sends_to.Tie as tie
+use Rattle.replication.proofs.other_holder.Statement.{statement}
+use Rattle.replication.proofs.other_holder.Tie as tie
 
-pub sends-to-spec : {M : Type 1} → statement M
-sends-to-spec =
+pub other-holder-spec : {M : Type 1} → statement M
+other-holder-spec =
     tie.close
     (tie.spec
     (λ c κs. search needs)
