@@ -70,9 +70,11 @@ static size_t step_bytes(struct Step s) {
     return digits(s.n[0]) + digits(s.n[1]) + digits(s.n[2]) + digits(s.n[3]) + 4;
 }
 
-static bool taken(struct Step s) {
-    return refusal(&store, s.n[0], s.n[1], s.n[2], s.n[3]) == 0;
+static unsigned refusal_of(struct Step s) {
+    return refusal(&store, s.n[0], s.n[1], s.n[2], s.n[3]);
 }
+
+static bool taken(struct Step s) { return refusal_of(s) == 0; }
 
 static void add(struct Step s) {
     if (step_count == STEP_LIMIT || used + step_bytes(s) > TEXT_LIMIT) {
@@ -155,18 +157,23 @@ static bool find_good(u64 code, size_t longest, struct Step *found) {
     return false;
 }
 
-/* Every step of this code that is taken, once each. Answers how many. */
-static size_t each(u64 code) {
+/* Every step of this code that is taken or turned away with this number, once each. Answers how
+ * many. */
+static size_t each_or(u64 code, unsigned number) {
     u64 size = range_size(code);
     size_t before = step_count;
     u64 first = size == 0 ? 0 : below(size);
     for (u64 i = 0; i < size; i++) {
         struct Step s = nth(code, (first + i) % size);
-        if (taken(s))
+        unsigned due = refusal_of(s);
+        if (due == 0 || due == number)
             add(s);
     }
     return step_count - before;
 }
+
+/* Every step of this code that is taken, once each. */
+static size_t each(u64 code) { return each_or(code, 0); }
 
 static u64 weighted(const unsigned *weights) {
     unsigned sum = 0;
@@ -180,7 +187,7 @@ static u64 weighted(const unsigned *weights) {
 
 /* How often each code is tried: in any run, and where transactions matter most. */
 static const unsigned usual[LAST_CODE + 1] = {0, 8, 14, 14, 14, 10, 14, 10, 12, 9, 14, 5, 6, 5, 8};
-static const unsigned busy[LAST_CODE + 1] = {0, 5, 14, 8, 28, 14, 24, 16, 16, 4, 6, 1, 1, 1, 8};
+static const unsigned busy[LAST_CODE + 1] = {0, 6, 14, 8, 28, 14, 24, 16, 16, 9, 6, 1, 1, 1, 8};
 
 /* ---- Setups ---- */
 
@@ -238,8 +245,48 @@ static void choose_any_setup(void) {
     set_up();
 }
 
-/* Ticks a few servers to begin with, some to near the last reading. */
-static void far_apart(void) {
+/* ---- Runs ---- */
+
+/* "the larger of reading and hybrid clock" */
+static u64 clock_of(u64 hall, u64 partition) {
+    const struct Server *s = &store.server[hall][partition];
+    return s->reading > s->hybrid ? s->reading : s->hybrid;
+}
+
+/* All clocks meet a little past the fastest: stable times can pass all commits, and the next
+ * proposals tie. */
+static void catch_up(void) {
+    u64 top = 0, more = below(4);
+    for (u64 h = 0; h < halls; h++)
+        for (u64 p = 0; p < store.partitions; p++)
+            top = clock_of(h, p) > top ? clock_of(h, p) : top;
+    top = top + more > LAST_READING ? LAST_READING : top + more;
+    for (u64 h = 0; h < halls; h++)
+        for (u64 p = 0; p < store.partitions; p++)
+            if (holds(&store, h, p))
+                add_step(TICK, h, p, top);
+}
+
+/* A full round but for the learning. In some, installs that find a channel full and deliveries
+ * that find one empty are tried too. */
+static void gossip(void) {
+    bool all = chance(30);
+    each_or(INSTALL, all ? 10 : 0);
+    each_or(DELIVER, all ? 11 : 0);
+    each(REPORT);
+    each(SHARE);
+}
+
+static void full_round(void) {
+    gossip();
+    each(LEARN);
+}
+
+/* In some runs a round comes first, when there is nothing to send. Then a few servers tick, some to
+ * near the last reading. */
+static void begin(void) {
+    if (chance(30))
+        full_round();
     u64 most = chance(12) ? 48 : 24;
     for (u64 h = 0; h < halls; h++)
         for (u64 p = 0; p < store.partitions; p++)
@@ -249,35 +296,20 @@ static void far_apart(void) {
             }
 }
 
-/* ---- Runs ---- */
-
-/* All clocks meet a little past the fastest: stable times can pass all commits, and the next
- * proposals tie. */
-static void catch_up(void) {
-    u64 top = 0, more = below(4);
-    for (u64 h = 0; h < halls; h++)
-        for (u64 p = 0; p < store.partitions; p++) {
-            top = store.server[h][p].reading > top ? store.server[h][p].reading : top;
-            top = store.server[h][p].hybrid > top ? store.server[h][p].hybrid : top;
-        }
-    top = top + more > LAST_READING ? LAST_READING : top + more;
-    for (u64 h = 0; h < halls; h++)
-        for (u64 p = 0; p < store.partitions; p++)
-            if (holds(&store, h, p))
-                add_step(TICK, h, p, top);
-}
-
-/* A full round but for the learning. */
-static void gossip(void) {
-    each(INSTALL);
-    each(DELIVER);
-    each(REPORT);
-    each(SHARE);
-}
-
-static void full_round(void) {
-    gossip();
-    each(LEARN);
+/* Installs at one server, this many times. A tick comes before each, so that it sends unless
+ * transactions are prepared there; some follow without a tick, and are quiet unless the one before
+ * was turned away. */
+static void fill_channels(u64 times) {
+    struct Step s;
+    if (!find_good(INSTALL, SIZE_MAX, &s))
+        return;
+    for (; times > 0; times--) {
+        if (clock_of(s.n[1], s.n[2]) < LAST_READING)
+            add_step(TICK, s.n[1], s.n[2], clock_of(s.n[1], s.n[2]) + 1);
+        add(s);
+        for (u64 more = chance(70) ? 0 : 1 + below(3); more > 0; more--)
+            add(s);
+    }
 }
 
 static u64 any_key(void) { return (key_base + below(key_range)) % KEYS; }
@@ -341,13 +373,34 @@ static bool good(u64 code) {
     return found;
 }
 
-/* No transaction stays prepared and no channel keeps a message. */
-static void settle(void) {
+/* No transaction stays prepared. */
+static void finish(void) {
     each(PREPARE);
     each(DECIDE);
     each(COMMIT);
+}
+
+/* Nor does any channel keep a message. */
+static void settle(void) {
+    finish();
     while (each(DELIVER) > 0)
         continue;
+}
+
+/* Installs are tried at all servers, one of them with a full channel: while transactions are
+ * prepared there, and while they wait. */
+static void crowd(void) {
+    fill_channels(8 + below(2));
+    if (chance(50)) {
+        each(END);
+        each(PREPARE);
+    }
+    each_or(INSTALL, 10);
+    if (chance(50))
+        finish();
+    if (chance(50))
+        good(DELIVER);
+    each_or(INSTALL, 10);
 }
 
 /* Two sessions move to two holders of a key, write it at equal times where the clocks allow, and
@@ -412,6 +465,8 @@ static void moves(void) {
 static void wave(void) {
     if (chance(60))
         moves();
+    if (chance(30))
+        crowd();
     if (chance(60))
         catch_up();
     if (chance(50))
@@ -421,7 +476,7 @@ static void wave(void) {
 }
 
 static void mixed(size_t target) {
-    far_apart();
+    begin();
     while (step_count < target && !no_room) {
         if (chance(2))
             wave();
@@ -438,17 +493,16 @@ static void mixed(size_t target) {
 static u64 lowest_clock(void) {
     u64 lowest = UINT64_MAX;
     for (u64 h = 0; h < halls; h++)
-        for (u64 p = 0; p < store.partitions; p++) {
-            const struct Server *s = &store.server[h][p];
-            u64 clock = s->reading > s->hybrid ? s->reading : s->hybrid;
-            if (holds(&store, h, p) && clock < lowest)
-                lowest = clock;
-        }
+        for (u64 p = 0; p < store.partitions; p++)
+            if (holds(&store, h, p) && clock_of(h, p) < lowest)
+                lowest = clock_of(h, p);
     return lowest;
 }
 
 /* "every stable time is then at least L" */
-static void check_round(u64 lowest) {
+static void checked_round(void) {
+    u64 lowest = lowest_clock();
+    full_round();
     for (u64 h = 0; h < halls; h++)
         for (u64 p = 0; p < store.partitions; p++)
             if (!no_room && holds(&store, h, p) && store.server[h][p].stable < lowest) {
@@ -458,18 +512,25 @@ static void check_round(u64 lowest) {
 }
 
 static void rounds(void) {
-    far_apart();
+    begin();
     for (u64 turns = 2 + below(6); turns > 0; turns--) {
         for (u64 i = 20 + below(60); i > 0; i--)
             good(weighted(busy));
         if (chance(30))
             moves();
+        if (chance(30))
+            crowd();
         settle();
         if (chance(50))
             catch_up();
-        u64 lowest = lowest_clock();
-        full_round();
-        check_round(lowest);
+        if (chance(50)) { /* some servers have nothing left to send in the round */
+            for (u64 i = 1 + below(6); i > 0; i--)
+                good(INSTALL);
+            settle();
+        }
+        checked_round();
+        if (chance(30))
+            checked_round();
         look(0);
         look(0);
     }
@@ -517,15 +578,6 @@ static void bad_step(void) {
     add(s);
 }
 
-/* Installs at one server until an outgoing channel holds 8 and more. */
-static void fill_channels(u64 times) {
-    struct Step s;
-    if (!find_good(INSTALL, SIZE_MAX, &s))
-        return;
-    while (times-- > 0)
-        add(s);
-}
-
 /* One number of the setup is spoilt; the steps stay. */
 static void spoil_setup(void) {
     static const unsigned char bad_masks[] = {0, 16, 17, 31, 8};
@@ -542,14 +594,14 @@ static void spoil_setup(void) {
 
 static void bad(void) {
     size_t target = 80 + below(300);
-    far_apart();
+    begin();
     while (step_count < target && !no_room) {
         if (chance(45))
             bad_step();
         else if (chance(3))
             wave();
         else if (chance(2))
-            fill_channels(9);
+            crowd();
         else
             good(weighted(busy));
     }
@@ -579,21 +631,23 @@ static void batch(void) {
     for (u64 i = below(20); i > 0; i--)
         good(END);
     each(END);
+    fill_channels(9 + below(2));
     while (good(PREPARE) && !no_room)
         if (chance(20))
-            good(DECIDE);
+            good(chance(50) ? DECIDE : INSTALL);
     each(DECIDE);
     for (u64 i = below(sessions); i > 0; i--)
         good(MOVE);
-    fill_channels(9 + below(2));
+    each_or(INSTALL, 10);
     while (good(COMMIT) && !no_room)
-        if (chance(10))
-            good(TICK);
+        if (chance(20))
+            good(chance(50) ? TICK : INSTALL);
+    each_or(INSTALL, 10);
     for (u64 i = 10 + below(30); i > 0; i--) {
         if (chance(50))
             good(DELIVER);
         else
-            fill_channels(1 + below(9));
+            fill_channels(1 + below(4));
     }
 }
 

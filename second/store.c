@@ -1,5 +1,5 @@
-/* The rules of document 01 and of request a of document 02; each function quotes the words it
- * follows. */
+/* The rules of document 01 and of requests a and b of document 02; each function quotes the words
+ * it follows. */
 #include "store.h"
 
 #include <string.h>
@@ -216,6 +216,43 @@ static bool out_of_turn(const struct Store *store, u64 code, u64 a, u64 b) {
     return !t->decided || t->pairs[b].state != PREPARED;
 }
 
+/* "If the server has prepared transactions, version clock = lowest proposed time - 1; else [...]
+ * the larger of reading and hybrid clock." */
+static u64 next_version_clock(const struct Store *store, u64 hall, u64 partition) {
+    const struct Server *server = &store->server[hall][partition];
+    bool prepared = false;
+    u64 lowest = UINT64_MAX;
+    for (u64 n = 0; n < store->requests; n++) {
+        const struct Pair *pair = &store->transaction[n].pairs[partition];
+        if (pair->state != PREPARED || pair->hall != hall)
+            continue;
+        prepared = true;
+        lowest = lower(lowest, pair->proposed);
+    }
+    return prepared ? lowest - 1 : larger(server->reading, server->hybrid);
+}
+
+/* "Every waiting transaction with commit time at or below the version clock is installed. One
+ * message with these and the version clock" */
+static struct Message next_message(const struct Store *store, u64 hall, u64 partition) {
+    struct Message message = {0};
+    message.clock = next_version_clock(store, hall, partition);
+    for (u64 n = 0; n < store->requests; n++) {
+        const struct Transaction *t = &store->transaction[n];
+        const struct Pair *pair = &t->pairs[partition];
+        if (pair->state == WAITING && pair->hall == hall && t->commit_time <= message.clock)
+            message.numbers[message.count++] = n + 1;
+    }
+    return message;
+}
+
+/* "An install that installs nothing and leaves the version clock where it was shall send no
+ * message" */
+static bool quiet(const struct Store *store, u64 hall, u64 partition) {
+    struct Message message = next_message(store, hall, partition);
+    return message.count == 0 && message.clock == store->server[hall][partition].vector[hall];
+}
+
 /* Row 10: "install while an outgoing channel holds 8" */
 static bool channel_full(const struct Store *store, u64 hall, u64 partition) {
     for (u64 to = 0; to < store->halls; to++)
@@ -240,7 +277,8 @@ unsigned refusal(const struct Store *store, u64 code, u64 a, u64 b, u64 c) {
         return 8;
     if (out_of_turn(store, code, a, b))
         return 9;
-    if (code == INSTALL && channel_full(store, a, b))
+    /* "now only when a message would be sent" */
+    if (code == INSTALL && channel_full(store, a, b) && !quiet(store, a, b))
         return 10;
     if (code == DELIVER && store->channel[a][b][c].count == 0)
         return 11;
@@ -376,26 +414,7 @@ static struct Answer commit(struct Store *store, u64 number, u64 partition) {
     return answers(server->hybrid, 0);
 }
 
-/* "If the server has prepared transactions, version clock = lowest proposed time - 1; else
- * hybrid clock and version clock both become the larger of reading and hybrid clock." */
-static u64 move_version_clock(struct Store *store, u64 hall, u64 partition) {
-    struct Server *server = &store->server[hall][partition];
-    bool prepared = false;
-    u64 lowest = UINT64_MAX;
-    for (u64 n = 1; n <= store->requests; n++) {
-        const struct Pair *pair = &transaction(store, n)->pairs[partition];
-        if (pair->state != PREPARED || pair->hall != hall)
-            continue;
-        prepared = true;
-        lowest = lower(lowest, pair->proposed);
-    }
-    if (!prepared)
-        server->hybrid = larger(server->reading, server->hybrid);
-    server->vector[hall] = prepared ? lowest - 1 : server->hybrid;
-    return server->vector[hall];
-}
-
-/* "One message [...] goes to each other holder, even if empty." */
+/* "One message [...] goes to each other holder" */
 static void send(struct Store *store, u64 hall, u64 partition, const struct Message *message) {
     for (u64 to = 0; to < store->halls; to++)
         if (to != hall && holds(store, to, partition)) {
@@ -404,21 +423,20 @@ static void send(struct Store *store, u64 hall, u64 partition, const struct Mess
         }
 }
 
-/* 9. "Every waiting transaction with commit time at or below the version clock is installed.
- * [...] Answers the version clock and the number installed." */
+/* 9. "[...] else hybrid clock and version clock both become the larger of reading and hybrid
+ * clock. [...] Answers the version clock and the number installed." With prepared transactions
+ * the hybrid clock is above the version clock already, and stays. */
 static struct Answer install(struct Store *store, u64 hall, u64 partition) {
-    struct Message message = {0};
-    message.clock = move_version_clock(store, hall, partition);
-    for (u64 n = 1; n <= store->requests; n++) {
-        struct Transaction *t = transaction(store, n);
-        struct Pair *pair = &t->pairs[partition];
-        if (pair->state != WAITING || pair->hall != hall || t->commit_time > message.clock)
-            continue;
-        pair->state = INSTALLED;
-        hold(store, hall, partition, n);
-        message.numbers[message.count++] = n;
+    struct Server *server = &store->server[hall][partition];
+    struct Message message = next_message(store, hall, partition);
+    if (!quiet(store, hall, partition))
+        send(store, hall, partition, &message);
+    server->hybrid = larger(server->hybrid, message.clock);
+    server->vector[hall] = message.clock;
+    for (size_t i = 0; i < message.count; i++) {
+        transaction(store, message.numbers[i])->pairs[partition].state = INSTALLED;
+        hold(store, hall, partition, message.numbers[i]);
     }
-    send(store, hall, partition, &message);
     return answers(message.clock, message.count);
 }
 

@@ -1,5 +1,5 @@
-/* The recipe store of document 01 and of request a of document 02, kept in plain structs and
- * lists. */
+/* The recipe store of document 01 and of requests a and b of document 02, kept in plain structs
+ * and lists. */
 #ifndef STORE_H
 #define STORE_H
 
