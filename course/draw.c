@@ -1,6 +1,6 @@
 /* Draws a run as one SVG: draw SCRIPT PRINTOUT. Steps go down, one to a row; halls and servers are lanes. The printout decides
- * what happened; of the store only so much is followed as says where a step stands, which message a delivery takes, and which
- * reads a session answers itself. */
+ * what happened; of the store only so much is followed as says where a step stands, which installs are quiet, which message a
+ * delivery takes, and which reads a session answers itself. */
 #include <inttypes.h>
 #include <stdarg.h>
 #include <stdbool.h>
@@ -93,6 +93,7 @@ struct Row {
 static u64 halls, partitions, servers, session_count, step_count, masks[HALLS];
 static struct Session sessions[SESSIONS];
 static struct Transaction transactions[REQUESTS + 1];
+static u64 version_clocks[HALLS][PARTITIONS];
 static struct Message messages[MESSAGES];
 static int message_count, oldest[PARTITIONS][HALLS][HALLS], newest[PARTITIONS][HALLS][HALLS];
 static struct Row rows[STEPS];
@@ -148,7 +149,7 @@ static void put(char *line, size_t size, const char *format, ...) {
 #define SERVER "(%" PRIu64 ", %" PRIu64 ")"
 #define N "%" PRIu64
 
-/* "One message [...] goes to each other holder, even if empty." */
+/* "One message with these and the version clock goes to each other holder" */
 static void send(u64 hall, u64 partition, int row, bool carries) {
     for (u64 to = 0; to < halls; to++) {
         if (to == hall || !holds(to, partition))
@@ -299,6 +300,21 @@ static void decide(u64 number, u64 time) {
     s->written = 0;
 }
 
+/* "An install that installs nothing and leaves the version clock where it was shall send no message" */
+static void install(struct Row *row, u64 hall, u64 partition, u64 clock, u64 installed) {
+    WORDS(": version clock " N ", installed: " N, clock, installed);
+    LABEL("version " N, clock);
+    if (installed != 0)
+        LABEL(", +" N, installed);
+    if (installed == 0 && clock == version_clocks[hall][partition]) {
+        WORDS(", quiet");
+        LABEL(", quiet");
+    } else {
+        send(hall, partition, (int)(row - rows), installed != 0);
+    }
+    version_clocks[hall][partition] = clock;
+}
+
 static void set_stable(struct Row *row, u64 time) {
     row->sets_stable = true;
     row->stable = time;
@@ -316,7 +332,6 @@ static void move(struct Row *row, u64 session, u64 hall, u64 partition) {
 /* What was answered. The lane says that the numbers are there, even where the printout is not this script's. */
 static void answer(struct Row *row, const u64 n[4], u64 first, u64 second) {
     u64 a = n[1], b = n[2], c = n[3];
-    int number = (int)(row - rows);
     switch (n[0]) {
     case TICK:
         LABEL(N, c);
@@ -351,18 +366,14 @@ static void answer(struct Row *row, const u64 n[4], u64 first, u64 second) {
         LABEL("T" N " waiting", a);
         break;
     case INSTALL:
-        WORDS(": version clock " N ", installed: " N, first, second);
-        LABEL("version " N, first);
-        if (second != 0)
-            LABEL(", +" N, second);
-        send(a, b, number, second != 0);
+        install(row, a, b, first, second);
         break;
     case DELIVER:
         WORDS(": clock " N ", installed: " N, first, second);
         LABEL("hall " N ": " N, b, first);
         if (second != 0)
             LABEL(", +" N, second);
-        deliver(a, b, c, number);
+        deliver(a, b, c, (int)(row - rows));
         break;
     case REPORT:
         WORDS(": " N, first);
@@ -487,7 +498,7 @@ static void run(struct Text script, struct Text printout) {
     memset(oldest, NONE, sizeof oldest);
     bool set = take_setup(&script);
     if (!take_four(&next, line) || line[0] != 0 || line[1] != 0 || !set) {
-        halls = 0;
+        halls = session_count = 0;
         say_ending(printout, "before step 1");
         return;
     }
@@ -831,8 +842,8 @@ static void draw(void) {
     draw_arrow_head("copy", colour_of(DELIVER));
     draw_arrow_head("time", colour_of(LEARN));
     printf("<rect width=\"%d\" height=\"%d\" fill=\"#fff\"/>\n", width, height);
-    text('t', LEFT, 26, black, "halls: " N ", servers: " N ", sessions: " N ", steps: %d", halls, servers,
-         halls == 0 ? 0 : session_count, row_count);
+    text('t', LEFT, 26, black, "halls: " N ", servers: " N ", sessions: " N ", steps: %d", halls, servers, session_count,
+         row_count);
     draw_halls();
     draw_stable_times();
     draw_walks();
