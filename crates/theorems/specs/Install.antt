@@ -1,7 +1,7 @@
 -- Install: the version clock that it comes to, and the clocks and states after it.
 use Prim.Native.Nat.{ℕ, suc, _≤_, _<_}
 use mathlib.Core.Bool.{true, false, _&&_}
-use mathlib.Core.Path.{_≡_, sym}
+use mathlib.Core.Path.{_≡_, sym, _∙_}
 use native.Mathlib.Nat.{le-trans, le-refl}
 use native.Mathlib.Omega.{arith}
 use lib.Dec.{eqb, leb}
@@ -41,7 +41,15 @@ pub install-hybrid : (σ : Store) (h p h′ p′ : ℕ) → σ (Hybrid h′ p′
 install-hybrid σ h p =
     hybrid-rises σ h p (hybridAfter σ h p) (by-test (hasPrepared σ h p) (λ c. rw c (omega arith)) (λ c. rw c (omega arith)))
 
+-- what a server knows of another hall stays
+pub install-other : (σ : Store) (h p g q f : ℕ) → (f ≡ g → ⊥) → install σ h p (Entry g q f) ≡ σ (Entry g q f)
+install-other σ h p g q f n = by-cell (Entry h p h) (Entry g q f) (λ r c. absurd (n (sym (r .k) ∙ r .i))) (λ c. rw c)
+
 module _ (σ : Store) (I : Inv σ) (h p : ℕ) where
+  -- what is installed has a commit time above the version clock before
+  pub installs-above : (t : ℕ) → installs σ h p t ≡ true → σ (Entry h p h) < σ (CommitTime t)
+  installs-above t e = let m = installs-is σ h p t e in rw (m .1) at (I .clocks .waits t p (m .0))
+
   pub clock-grows : σ (Entry h p h) ≤ versionClock σ h p
   clock-grows =
       let o = I .clocks .own h p in

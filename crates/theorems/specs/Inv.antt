@@ -64,9 +64,9 @@ Channels σ = record {
   fresh : (g p f i t : ℕ) → (f ≡ g → ⊥) → i < σ (Waiting g p f) → member (setAt σ g p f i) t ≡ true → σ (Entry g p f) < σ (CommitTime t);
   -- and above the clock of each message before it
   later : (g p f i j t : ℕ) → (f ≡ g → ⊥) → i < j → j < σ (Waiting g p f) → member (setAt σ g p f j) t ≡ true → clockAt σ g p f i < σ (CommitTime t);
-  -- where no message waits, the server knows the sender's version clock
+  -- where no message waits, what a holder knows of the sender is at least the sender's version clock
   heard : (g p f : ℕ) → (f ≡ g → ⊥) → holds σ g p ≡ true → σ (Waiting g p f) ≡ 0 → σ (Entry f p f) ≤ σ (Entry g p f);
-  -- and where one does, the newest says it
+  -- and where one does, the newest message's clock is
   newest : (g p f i : ℕ) → (f ≡ g → ⊥) → holds σ g p ≡ true → suc i ≡ σ (Waiting g p f) → σ (Entry f p f) ≤ clockAt σ g p f i;
 }
 

@@ -20,7 +20,7 @@ use Rattle.book.specs.Steps.{ruleOf, installRule, deliverRule, reportRule, shar
 use Rattle.book.specs.Reached.{Reached}
 use Rattle.theorems.specs.Setup.{Setup, server-small}
 use Rattle.theorems.specs.Inv.{clockAt}
-use Rattle.theorems.specs.Install.{install-hybrid}
+use Rattle.theorems.specs.Install.{install-hybrid, install-other}
 use Rattle.theorems.specs.Sent.{quiet-clock, quiet-silent, sendsTo-is, sendsTo-i, outgoing-i}
 use Rattle.theorems.specs.Reach.{reached-inv}
 use Rattle.theorems.specs.Calls.{Call, call, sameCall, refusalOf, afterOf, run, AllTaken, EachOnce, run-append, taken-append, by-rule, phase, cells-phase}
@@ -128,11 +128,6 @@ module _ (σ : Store) (U : Setup σ) (L : ℕ) where
       let c = channel-is (x .b) (x .a) g e in
       outgoing-i τ (x .a) (x .b) g (x .b) (x .a) refl refl (sendsTo-i τ (x .a) (x .b) g q (c .2) (K .fixed .1 g (x .b) ∙ c .1))
 
-  -- the entry of another for the server stays
-  other-entry : (τ : Store) (h p h′ p′ g : ℕ) → isChannel σ p h g ≡ true → install τ h′ p′ (Entry g p h) ≡ τ (Entry g p h)
-  other-entry τ h p h′ p′ g e =
-      by-cell (Entry h′ p′ h′) (Entry g p h) (λ r c. absurd (channel-is p h g e .2 (sym (r .k) ∙ r .i))) (λ c. rw c)
-
   take1 : (x : Call) (τ : Store) → Keep1 τ → Todo1 x τ → (refusalOf τ x ≡ 0) × (afterOf τ x ≡ install τ (x .a) (x .b))
   unfolding ruleOf
   take1 x τ K T =
@@ -167,7 +162,7 @@ module _ (σ : Store) (U : Setup σ) (L : ℕ) where
         others = λ g e. by-test (isQuiet τ (x .a) (x .b))
             (λ q. let same = quiet-clock τ (x .a) (x .b) q in
             let known = T .heard g e in
-            inr (record { none = rw (quiet-silent τ (x .a) (x .b) q g (x .b) (x .a)) (T .empty g e); entry = rw (other-entry τ (x .a) (x .b) (x .a) (x .b) g e) (omega arith) }))
+            inr (record { none = rw (quiet-silent τ (x .a) (x .b) q g (x .b) (x .a)) (T .empty g e); entry = rw (install-other τ (x .a) (x .b) g (x .b) (x .a) (channel-is (x .b) (x .a) g e .2)) (omega arith) }))
             (λ q. let o = goes x τ K q g e in
             let first : eqb (nextSlot τ g (x .b) (x .a)) (slotOf τ g (x .b) (x .a) 0) ≡ true =
             rw (T .empty g e) (eqb-refl (slotOf τ g (x .b) (x .a) 0)) in
@@ -181,7 +176,7 @@ module _ (σ : Store) (U : Setup σ) (L : ℕ) where
     heard = λ g e.
         by-cell (Entry (x .a) (x .b) (x .a)) (Entry (y .a) (y .b) (y .a))
         (λ r c. absurd (true≢false (rw (eq-eqb _ _ (r .j), eq-eqb _ _ (r .i)) at (apart 9 x y (T .at) (T′ .at) n true))))
-        (λ c. rw (c, other-entry τ (y .a) (y .b) (x .a) (x .b) g e) (T′ .heard g e));
+        (λ c. rw (c, install-other τ (x .a) (x .b) g (y .b) (y .a) (channel-is (y .b) (y .a) g e .2)) (T′ .heard g e));
   }
 
   stay1 : (x y : Call) (τ : Store) → Keep1 τ → Todo1 x τ → sameCall x y ≡ false → Done1 y τ → Done1 y (install τ (x .a) (x .b))
@@ -194,7 +189,7 @@ module _ (σ : Store) (U : Setup σ) (L : ℕ) where
             (λ c. rw c (D .own));
         others = λ g e. ⊎-map
             (λ t. record { one = rw (other g) (t .one); sent = rw (other g) (t .sent) })
-            (λ k. record { none = rw (other g) (k .none); entry = rw (other-entry τ (y .a) (y .b) (x .a) (x .b) g e) (k .entry) })
+            (λ k. record { none = rw (other g) (k .none); entry = rw (install-other τ (x .a) (x .b) g (y .b) (y .a) (channel-is (y .b) (y .a) g e .2)) (k .entry) })
             (D .others g e);
       }
 

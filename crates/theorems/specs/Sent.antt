@@ -17,7 +17,7 @@ use Rattle.theorems.specs.Inv.{clockAt, setAt, Channels, Holding, Writes
 use Rattle.theorems.specs.Setup.{server-small}
 use Rattle.theorems.specs.Gossip.{grow-gossip}
 use Rattle.theorems.specs.Clocks.{state-stays}
-use Rattle.theorems.specs.Install.{installs-is, has-place, clock-grows, install-grown, install-clocks, install-states}
+use Rattle.theorems.specs.Install.{installs-is, has-place, install-other, installs-above, clock-grows, install-grown, install-clocks, install-states}
 
 -- slots of one ring: the next is none of those in use
 slot-old : (a i c : ℕ) → i < c → c < slots → eqb ((a + c) % slots) ((a + i) % slots) ≡ false
@@ -93,10 +93,6 @@ module _ (σ : Store) (I : Inv σ) (h p : ℕ) (room : (g : ℕ) → g < hallsMa
       (λ e _. old (omega arith) (old-clock g q f i (omega arith)) (old-set g q f i (omega arith))))
       (λ c. let l′ : i < σ (Waiting g q f) = rw c at l in old l′ (old-clock g q f i l′) (old-set g q f i l′))
 
-  -- the entries of others stay
-  install-other : (g q f : ℕ) → (f ≡ g → ⊥) → install σ h p (Entry g q f) ≡ σ (Entry g q f)
-  install-other g q f n = by-cell (Entry h p h) (Entry g q f) (λ r c. absurd (n (sym (r .k) ∙ r .i))) (λ c. rw c)
-
   -- where no message goes to another holder, neither has the sender's version clock moved
   own-stays : (g q f : ℕ) → (f ≡ g → ⊥) → holds σ g q ≡ true → outgoing σ h p g q f ≡ false → install σ h p (Entry f q f) ≡ σ (Entry f q f)
   own-stays g q f n k o =
@@ -114,7 +110,7 @@ module _ (σ : Store) (I : Inv σ) (h p : ℕ) (room : (g : ℕ) → g < hallsMa
         (λ r c. let e : g ≡ f = sym (r .i) ∙ r .k in rw e (le-refl _))
         (λ c. rw c (le-trans (I .channels .seen g q f) (install-grown σ I h p f q f)));
     low = λ g q f i n l.
-        rw (install-other g q f n)
+        rw (install-other σ h p g q f n)
         (by-message g q f i l
         (λ l′ c s. rw c (I .channels .low g q f i n l′))
         (λ e a b c s. let x : σ (Entry g q f) ≤ σ (Entry h p h) = rw (a, b) (I .channels .seen g q f) in
@@ -130,7 +126,7 @@ module _ (σ : Store) (I : Inv σ) (h p : ℕ) (room : (g : ℕ) → g < hallsMa
         let x : clockAt σ g q f i ≤ σ (Entry h p h) = rw (a, b) (I .channels .high g q f i n l′) in
         rw (c, old-clock g q f i l′) (le-trans x (clock-grows σ I h p)));
     fresh = λ g q f i t n l e.
-        rw (install-other g q f n)
+        rw (install-other σ h p g q f n)
         (by-message g q f i l
         (λ l′ c s. I .channels .fresh g q f i t n l′ (rw s at e))
         (λ _ a b c s. let x : σ (Entry g q f) ≤ σ (Entry h p h) = rw (a, b) (I .channels .seen g q f) in
@@ -146,7 +142,7 @@ module _ (σ : Store) (I : Inv σ) (h p : ℕ) (room : (g : ℕ) → g < hallsMa
     heard = λ g q f n k w.
         by-test (outgoing σ h p g q f)
         (λ o. let w′ = rw o at w in absurd (omega arith))
-        (λ o. rw (own-stays g q f n k o, install-other g q f n) (I .channels .heard g q f n k (rw o at w)));
+        (λ o. rw (own-stays g q f n k o, install-other σ h p g q f n) (I .channels .heard g q f n k (rw o at w)));
     newest = λ g q f i n k w.
         by-test (outgoing σ h p g q f)
         (λ o. let w′ : suc i ≡ suc (σ (Waiting g q f)) = rw o at w in
@@ -159,8 +155,7 @@ module _ (σ : Store) (I : Inv σ) (h p : ℕ) (room : (g : ℕ) → g < hallsMa
     where
       moving : (t : ℕ) → member (setOf placesMax (installs σ h p)) t ≡ true → σ (Entry h p h) < σ (CommitTime t)
       moving t e =
-          let m = installs-is σ h p t (and-true (ltb t placesMax) _ (sym (member-setOf placesMax (installs σ h p) t) ∙ e) .1) in
-          rw (m .1) at (I .clocks .waits t p (m .0))
+          installs-above σ I h p t (and-true (ltb t placesMax) _ (sym (member-setOf placesMax (installs σ h p) t) ∙ e) .1)
 
   held-grows : (h′ p′ t : ℕ) → σ (Held h′ p′ t) ≡ 1 → install σ h p (Held h′ p′ t) ≡ 1
   held-grows h′ p′ t e = by-test (eqb h h′ && (eqb p p′ && installs σ h p t)) (λ c. rw c) (λ c. rw c e)
@@ -182,7 +177,7 @@ module _ (σ : Store) (I : Inv σ) (h p : ℕ) (room : (g : ℕ) → g < hallsMa
         let q = eqb-true p p′ (a .0) in
         let m = installs-is σ h p t (a .1) in
         let w : h ≡ writer σ t p′ = rw (← q) (sym (m .1)) in
-        let z : isQuiet σ h p ≡ false = let x = rw (m .1) at (I .clocks .waits t p (m .0)) in loud σ h p (omega arith) in
+        let z : isQuiet σ h p ≡ false = let x = installs-above σ I h p t (a .1) in loud σ h p (omega arith) in
         let o = outgoing-i σ h p g p′ (writer σ t p′) q w (sendsTo-i σ h p g z (λ x. n (sym w ∙ x)) (rw q k)) in
         let b = has-place σ I t p (omega arith) in
         inr (
