@@ -3,7 +3,7 @@ use Prim.Native.Nat.{ℕ, _^_, _-_}
 use mathlib.Core.Path.{_≡_, refl}
 use mathlib.Core.List.{List, [], _∷_}
 use Rattle.book.specs.declared.View.the-variants.{Seen}
-use Rattle.book.specs.Cells.{Store, _⟨_≔_⟩, Halls, Partitions, Sessions, Transactions, Mask, Reading, Hybrid, Stable, Held, Status, running, committing, Snapshot, LastCommit, CacheTime, From, CommitTime, KeySet, State, asked, prepared, waiting, installed, Proposed, Entry, Waiting, ClockSent, Carries, Note, Shared}
+use Rattle.book.specs.Cells.{Store, _⟨_≔_⟩, Halls, Partitions, Sessions, Transactions, Mask, Reading, Hybrid, Stable, Held, Status, running, committing, Snapshot, LastCommit, WriteValue, CacheTime, From, CommitTime, KeySet, State, asked, prepared, waiting, installed, Proposed, Entry, Waiting, ClockSent, Carries, Note, Shared}
 use Rattle.book.specs.Folds.{any, all, count, sum, lowest, largest}
 use Rattle.book.specs.Sets.{member, include, setOf}
 use Rattle.book.specs.Answers.{stamp, numbers, viewNumbers}
@@ -105,7 +105,7 @@ waitingAt1 = bothPrepared ⟨ CommitTime 0 ≔ 100 ⟩ ⟨ State 0 1 ≔ waiting
 abbrev sent : Store
 sent = waitingAt1 ⟨ State 0 1 ≔ installed ⟩ ⟨ Entry 0 1 0 ≔ 100 ⟩ ⟨ Waiting 1 1 0 ≔ 1 ⟩ ⟨ ClockSent 1 1 0 0 ≔ 100 ⟩ ⟨ Carries 1 1 0 0 ≔ 1 ⟩
 
--- lines worked out by hand from the page, most of them from its printout
+-- lines worked out by hand from the page, its printout and document 02
 unfoldable pub worked : List Line
 worked =
     -- step 0: "N and the number of servers"
@@ -175,6 +175,15 @@ worked =
     ∷ refusal halls 14 0 0 0 gives 0
     ∷ refusal halls 14 2 0 0 gives 3
     ∷ refusal halls 15 0 0 0 gives 3
+    -- document 02, c: "Values to 100,000 are taken. Refusals: 12, bad value"
+    ∷ refusal (reader 0) 4 0 0 100000 gives 0
+    ∷ after (reader 0) 4 0 0 100000 (WriteValue 0 0) gives 100000
+    ∷ refusal (reader 0) 4 0 0 100001 gives 12
+    -- "checked right after 3": a bad key comes first, a session that is idle or committing later
+    ∷ refusal (reader 0) 4 0 32 100001 gives 3
+    ∷ refusal halls 4 0 0 100001 gives 12
+    ∷ refusal halls 4 0 0 100000 gives 7
+    ∷ refusal desk 4 0 0 100001 gives 12
     -- equal times and halls: the larger number wins, whichever comes first
     ∷ viewNumbers (merge (Seen 1 (stamp 100 0 1)) (Seen 2 (stamp 100 0 2))) .second gives 2
     ∷ viewNumbers (merge (Seen 2 (stamp 100 0 2)) (Seen 1 (stamp 100 0 1))) .second gives 2
@@ -183,4 +192,4 @@ worked =
 pub worked-holds : Holds worked
 unfolding worked any all count sum lowest largest member include setOf firstFrom mergeAll setupRefusal setupAnswer ruleOf refusal after answer
 worked-holds =
-    (refl, (refl, (refl, (refl, (refl, (refl, (refl, (refl, (refl, (refl, (refl, (refl, (refl, (refl, (refl, (refl, (refl, (refl, (refl, (refl, (refl, (refl, (refl, (refl, (refl, (refl, (refl, (refl, (refl, (refl, (refl, (refl, (refl, (refl, (refl, (refl, (refl, (refl, (refl, (refl, (refl, (refl, (refl, (refl, (refl, (refl, (refl, (refl, (refl, tt)))))))))))))))))))))))))))))))))))))))))))))))))
+    (refl, (refl, (refl, (refl, (refl, (refl, (refl, (refl, (refl, (refl, (refl, (refl, (refl, (refl, (refl, (refl, (refl, (refl, (refl, (refl, (refl, (refl, (refl, (refl, (refl, (refl, (refl, (refl, (refl, (refl, (refl, (refl, (refl, (refl, (refl, (refl, (refl, (refl, (refl, (refl, (refl, (refl, (refl, (refl, (refl, (refl, (refl, (refl, (refl, (refl, (refl, (refl, (refl, (refl, (refl, (refl, tt))))))))))))))))))))))))))))))))))))))))))))))))))))))))

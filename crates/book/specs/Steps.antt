@@ -1,6 +1,6 @@
 -- The page's thirteen steps and "New step 14": "(code, three numbers; unused numbers are 0; two answers, 0 where not named)", for any four numbers.
 use Prim.Native.Nat.{ℕ}
-use mathlib.Core.Bool.{Bool, true, false, cond}
+use mathlib.Core.Bool.{cond}
 use mathlib.Core.Path.{_≡_, refl}
 use lib.Dec.{eqb, ltb}
 use borrow.Author.Tests.{ne-eqb}
@@ -9,7 +9,7 @@ use Rattle.book.specs.declared.Answer.the-variants.{Refused, Answered}
 use Rattle.book.specs.declared.View.{View}
 use Rattle.book.specs.declared.View.the-variants.{Nothing, Seen}
 use Rattle.book.specs.Cells.{Store, WriteSet, ReadSet, CacheTime, Snapshot}
-use Rattle.book.specs.Cases.{by-test, by-eq}
+use Rattle.book.specs.Cases.{choose, by-eq}
 use Rattle.book.specs.Sets.{member}
 use Rattle.book.specs.Answers.{triple, viewNumbers, numbers}
 use Rattle.book.specs.Servers.{placeOf}
@@ -107,10 +107,6 @@ unfoldable pub answer : Store → ℕ → ℕ → ℕ → ℕ → Answer
 answer σ code a b c =
     cond (eqb (refusal σ code a b c) 0) (ruleOf σ code a b c .answer) (Refused (refusal σ code a b c))
 
-choose : (G : Rule → Type 0) (b : Bool) {x y : Rule} → G x → G y → G (cond b x y)
-choose G true f g = f
-choose G false f g = g
-
 -- what holds of each rule holds of the rule of any four numbers
 pub by-code : (G : Rule → Type 0) (σ : Store) (code a b c : ℕ)
     → G (tickRule σ a b c) → G (startRule σ a b c) → G (readRule σ a b c) → G (writeRule σ a b c) → G (endRule σ a b c)
@@ -150,16 +146,14 @@ view-taken (Seen v s) = refl
 
 read-taken : (σ : Store) (s k h : ℕ) → Taken (readRule σ s k h)
 read-taken σ s k h =
-    by-test (member (σ (WriteSet s)) k)
-    (λ e. rw e)
-    (λ e. by-test (member (σ (ReadSet s)) k)
-    (λ f. rw (e, f))
-    (λ f. by-test (ltb 0 (σ (CacheTime s k)))
-    (λ g. rw (e, f, g))
-    (λ g. rw (e, f, g) (view-taken (heldView σ h k (σ (Snapshot s)))))))
+    let P : Answer → Type 0 = λ x. numbers x .refusal ≡ 0 in
+    choose P (member (σ (WriteSet s)) k) refl
+    (choose P (member (σ (ReadSet s)) k) refl
+    (choose P (ltb 0 (σ (CacheTime s k))) refl
+    (view-taken (heldView σ h k (σ (Snapshot s))))))
 
 end-taken : (σ : Store) (s y z : ℕ) → Taken (endRule σ s y z)
-end-taken σ s y z = by-test (hasWrites σ s) (λ e. rw e) (λ e. rw e)
+end-taken σ s y z = choose (λ (x : Answer). numbers x .refusal ≡ 0) (hasWrites σ s) refl refl
 
 -- the number in a step's line is the ladder's
 pub answer-refusal : (σ : Store) (code a b c : ℕ) → numbers (answer σ code a b c) .refusal ≡ refusal σ code a b c

@@ -15,6 +15,7 @@ ghost use Rattle.replication.specs.Safe.{Coordinated, Timely};
 ghost use Rattle.ladders.specs.Sized.{Sized};
 ghost use Rattle.ladders.specs.Full.{fullTo};
 use book::READING_MAX;
+use book::VALUE_MAX;
 use room::COMMIT_TIME;
 use room::HALLS;
 use room::PARTITIONS;
@@ -122,7 +123,8 @@ pub fn write(room: &[u64], s: u64, k: u64, v: u64) -> u64
     if !both(session_there(room, s), k < 32) {
         return 3;
     }
-    when(room::get(room, STATUS, s as usize, 0, 0, 0) != 1, 7, 0)
+    let status = room::get(room, STATUS, s as usize, 0, 0, 0);
+    when(v > VALUE_MAX, 12, when(status != 1, 7, 0))
 }
 
 pub fn end(room: &[u64], s: u64, y: u64, z: u64) -> u64

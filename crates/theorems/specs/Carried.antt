@@ -43,7 +43,7 @@ module _ (σ : Store) (t : ℕ) (b : t < σ Transactions) where
   step-kept (Step.ticks h p x a b c) = same
   step-kept (Step.starts s a b) = same
   step-kept (Step.reads s k h a b c d) = same
-  step-kept (Step.writes s k v a b c) = same
+  step-kept (Step.writes s k v a b c d) = same
   -- the new one stands at the next place
   step-kept (Step.asks s a c d e) =
       let n = ne-eqb (σ Transactions) t (λ q. omega arith) in

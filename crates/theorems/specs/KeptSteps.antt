@@ -8,7 +8,7 @@ use lib.Dec.{eqb, ltb, leb}
 use borrow.Author.Tests.{lt-ltb, le-ltb, ltb-true, eqb-true}
 use Rattle.book.specs.Sizes.{hallsMax, partitionsMax, sessionsMax, keys, placesMax, slots, readingMax}
 use Rattle.book.specs.Cells.{Cell, Store, same, _⟨_≔_⟩, Halls, Partitions, Sessions, Transactions, Reading, Hybrid, Stable, Entry, HomeHall, HomePartition, Status, Snapshot, LastCommit, WriteSet, ReadSet, CacheTime, By, From, CommitTime, KeySet, State, Proposed, First, Waiting, ClockSent, Note, Shared}
-use Rattle.book.specs.Cases.{by-test, by-eq, by-cell, and-true, unwritten, at-same}
+use Rattle.book.specs.Cases.{by-test, choose, by-eq, by-cell, and-true, unwritten, at-same}
 use Rattle.book.specs.Folds.{lowest-within, largest-within}
 use Rattle.book.specs.Sets.{member, include-lt}
 use Rattle.book.specs.Servers.{holds, holds-hall, writer}
@@ -24,22 +24,17 @@ use Rattle.theorems.specs.Tally.{prepared-le, prepared-lt}
 use Rattle.theorems.specs.Setup.{Setup, good-setup, server-small, move-good}
 use Rattle.theorems.specs.Formed.{All1, All2, All3, Times, Formed, writer-small}
 
--- what holds of both holds of the one that is chosen
-of-both : (P : ℕ → Type 0) (b : Bool) (v w : ℕ) → P v → P w → P (cond b v w)
-of-both P true v w x y = x
-of-both P false v w x y = y
-
 -- a number that passes, written to one cell or to several, leaves cells that all pass
 module _ (P : ℕ → Type 0) (σ : Store) where
   put1 : {l : ℕ} (c : ℕ → Cell) (i v : ℕ) → P v → All1 P σ c l → All1 P (σ ⟨ c i ≔ v ⟩) c l
-  put1 c i v x A = λ a r. of-both P (eqb (c i .kind) (c a .kind) && same (c i) (c a)) v _ x (A a r)
+  put1 c i v x A = λ a r. choose P (eqb (c i .kind) (c a .kind) && same (c i) (c a)) x (A a r)
 
   put2 : {l m : ℕ} (c : ℕ → ℕ → Cell) (i j v : ℕ) → P v → All2 P σ c l m → All2 P (σ ⟨ c i j ≔ v ⟩) c l m
-  put2 c i j v x A = λ a b r s. of-both P (eqb (c i j .kind) (c a b .kind) && same (c i j) (c a b)) v _ x (A a b r s)
+  put2 c i j v x A = λ a b r s. choose P (eqb (c i j .kind) (c a b .kind) && same (c i j) (c a b)) x (A a b r s)
 
   put3 : {l m n : ℕ} (c : ℕ → ℕ → ℕ → Cell) (i j k v : ℕ) → P v → All3 P σ c l m n → All3 P (σ ⟨ c i j k ≔ v ⟩) c l m n
   put3 c i j k v x A =
-      λ a b d r s t. of-both P (eqb (c i j k .kind) (c a b d .kind) && same (c i j k) (c a b d)) v _ x (A a b d r s t)
+      λ a b d r s t. choose P (eqb (c i j k .kind) (c a b d .kind) && same (c i j k) (c a b d)) x (A a b d r s t)
 
 -- a higher bound is one too
 pub times-le : (σ : Store) (b c : ℕ) → b ≤ c → Times σ b → Times σ c
@@ -95,7 +90,7 @@ module _ (σ : Store) (F : Formed σ) where
       let stable = put2 (_≤ b) σ Stable h p _ new (T .stable) in
       let snapshots = put1 (_≤ b) σ Snapshot s _ new (T .snapshot) in
       let cached : All2 (_≤ b) (start σ s) CacheTime sessionsMax keys =
-      λ a k i j. of-both (_≤ b) (eqb s a && leb (σ (CacheTime a k)) (snapshot σ s)) _ _ (omega arith) (T .cached a k i j) in
+      λ a k i j. choose (_≤ b) (eqb s a && leb (σ (CacheTime a k)) (snapshot σ s)) (omega arith) (T .cached a k i j) in
       let status = put1 (_≤ 2) σ Status s 1 (omega arith) (F .status) in
       let writes = put1 (_< 2 ^ keys) σ WriteSet s 0 (omega arith) (F .writes) in
       let reads = put1 (_< 2 ^ keys) σ ReadSet s 0 (omega arith) (F .reads) in
@@ -104,7 +99,7 @@ module _ (σ : Store) (F : Formed σ) where
   read-formed : (s k h : ℕ) → s < σ Sessions → k < keys → Formed (read σ s k h)
   read-formed s k h l m =
       let x = F .reads s (omega (arith, U)) in
-      let new = of-both (_< 2 ^ keys) (eqb (numbers (readAnswer σ s k h) .first) 1) _ _ (include-lt keys _ k x m) x in
+      let new = choose (_< 2 ^ keys) (eqb (numbers (readAnswer σ s k h) .first) 1) (include-lt keys _ k x m) x in
       let reads = put1 (_< 2 ^ keys) σ ReadSet s _ new (F .reads) in
       search
 
@@ -136,7 +131,7 @@ module _ (σ : Store) (F : Formed σ) where
       let state : (u p : ℕ) → u < placesMax → p < partitionsMax → ask σ s (State u p) ≤ cond (ltb u (suc t)) 4 0 =
       λ u p i j. by-eq t u
       (λ q c. rw (lt-ltb u (suc t) (omega arith))
-      (of-both (_≤ 4) (asks u p) _ _ (omega arith) (let x = free u p i j q in omega arith)))
+      (choose (_≤ 4) (asks u p) (omega arith) (let x = free u p i j q in omega arith)))
       (λ q c. rw c (le-trans (F .state u p i j) (limit-le u t (suc t) (omega arith)))) in
       let prepared : (u p : ℕ) → u < placesMax → p < partitionsMax → ask σ s (State u p) ≡ 2 → 1 ≤ σ (Proposed u p) =
       λ u p i j e. F .prepared u p i j (unwritten (asks u p) 1 _ 2 (λ x. omega arith) e .1) in
@@ -184,7 +179,7 @@ module _ (σ : Store) (F : Formed σ) where
       let commit = put1 (_≤ b) σ CommitTime t _ new (T .commit) in
       let last = put1 (_≤ b) σ LastCommit s _ new (T .last) in
       let cached : All2 (_≤ b) (decide σ t) CacheTime sessionsMax keys =
-      λ a k i j. of-both (_≤ b) (eqb s a && member (σ (KeySet t)) k) _ _ new (T .cached a k i j) in
+      λ a k i j. choose (_≤ b) (eqb s a && member (σ (KeySet t)) k) new (T .cached a k i j) in
       let writes = put1 (_< 2 ^ keys) σ WriteSet s 0 (omega arith) (F .writes) in
       let status = put1 (_≤ 2) σ Status s 0 (omega arith) (F .status) in
       search
@@ -221,13 +216,13 @@ module _ (σ : Store) (F : Formed σ) where
       by-test (eqb p q && installs σ h p t) (λ c. let x = is t q c in rw c (omega arith)) (λ c. rw c (omega arith)) in
       let B = timeBound (install σ h p) in
       let more = prepared-le σ (install σ h p) up in
-      let clock : versionClock σ h p ≤ B = of-both (_≤ B) (hasPrepared σ h p) _ _ (omega arith) (omega arith) in
-      let after : hybridAfter σ h p ≤ B = of-both (_≤ B) (hasPrepared σ h p) _ _ (omega arith) (omega arith) in
+      let clock : versionClock σ h p ≤ B = choose (_≤ B) (hasPrepared σ h p) (omega arith) (omega arith) in
+      let after : hybridAfter σ h p ≤ B = choose (_≤ B) (hasPrepared σ h p) (omega arith) (omega arith) in
       let times = times-le σ b B (omega arith) T in
       let hybrid = put2 (_≤ B) σ Hybrid h p _ after (times .hybrid) in
       let entry = put3 (_≤ B) σ Entry h p h _ clock (times .entry) in
       let sent : (g q f n : ℕ) → g < hallsMax → q < partitionsMax → f < hallsMax → n < slots → install σ h p (ClockSent g q f n) ≤ B = λ g q f n i j l m.
-      of-both (_≤ B) (outgoing σ h p g q f && eqb (nextSlot σ g q f) n) _ _ clock (times .sent g q f n i j l m) in
+      choose (_≤ B) (outgoing σ h p g q f && eqb (nextSlot σ g q f) n) clock (times .sent g q f n i j l m) in
       let waiting : All3 (_≤ slots) (install σ h p) Waiting hallsMax partitionsMax hallsMax = λ g q f i j l. by-test (outgoing σ h p g q f)
       (λ c. let a = and-true (eqb p q) _ c in
       let d = and-true (eqb h f) _ (a .1) in
@@ -281,7 +276,7 @@ pub step-formed : (σ : Store) → Formed σ → (s : Step σ) → Formed (next 
 step-formed σ F (Step.ticks h p x a b c) = tick-formed σ F h p x b
 step-formed σ F (Step.starts s a b) = start-formed σ F s a
 step-formed σ F (Step.reads s k h a b c d) = read-formed σ F s k h a b
-step-formed σ F (Step.writes s k v a b c) = write-formed σ F s k v a b
+step-formed σ F (Step.writes s k v a b c d) = write-formed σ F s k v a b
 step-formed σ F (Step.asks s a b c d) = ask-formed σ F s a d
 step-formed σ F (Step.rests s a b c) = rest-formed σ F s
 step-formed σ F (Step.prepares t p a b c) = prepare-formed σ F t p a b c

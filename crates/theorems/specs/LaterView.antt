@@ -78,7 +78,7 @@ module _ (σ : Store) (I : Inv σ) (S : ℕ) (B : Below σ S) where
   step-view (Step.ticks h p x a b c) k kb = refl
   step-view (Step.starts s a b) k kb = refl
   step-view (Step.reads s j h a b c d) k kb = refl
-  step-view (Step.writes s j v a b c) k kb = refl
+  step-view (Step.writes s j v a b c d) k kb = refl
   step-view (Step.asks s a b c d) k kb = ask-view s k
   step-view (Step.rests s a b c) k kb = refl
   step-view (Step.prepares t p a b c) k kb = refl
@@ -111,7 +111,7 @@ step-snapshot : (σ : Store) (x : Step σ) (s : ℕ) → σ (Snapshot s) ≤ nex
 step-snapshot σ (Step.ticks h p x a b c) s = le-refl _
 step-snapshot σ (Step.starts s′ a b) s = by-cell (Snapshot s′) (Snapshot s) (λ q c. rw (c, ← q .i) (omega arith)) (λ c. rw c (le-refl _))
 step-snapshot σ (Step.reads s′ k h a b c d) s = le-refl _
-step-snapshot σ (Step.writes s′ k v a b c) s = le-refl _
+step-snapshot σ (Step.writes s′ k v a b c d) s = le-refl _
 step-snapshot σ (Step.asks s′ a b c d) s = le-refl _
 step-snapshot σ (Step.rests s′ a b c) s = le-refl _
 step-snapshot σ (Step.prepares t p a b c) s = le-refl _

@@ -24,6 +24,7 @@ pub mod ReadAnswer
 pub mod OwnWrites
 pub mod ReadYourWrites
 pub mod Carried
+pub mod Ceiling
 pub mod Calls
 pub mod Quiet
 pub mod Round

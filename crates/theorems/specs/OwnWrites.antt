@@ -313,7 +313,7 @@ module _ (σ : Store) (I : Inv σ) (O : Own σ) where
   step-own (Step.ticks h p x a b c) = O
   step-own (Step.starts s a b) = start-own s b
   step-own (Step.reads s k h a b c d) = O
-  step-own (Step.writes s k v a b c) = write-own s k v b
+  step-own (Step.writes s k v a b c d) = write-own s k v b
   step-own (Step.asks s a b c d) = ask-own s b c
   step-own (Step.rests s a b c) = rest-own s b
   step-own (Step.prepares t p a b c) = prepare-own t p

@@ -25,7 +25,7 @@ step-inv σ I (Step.starts s a b) = record {
   writes = I .writes;
 }
 step-inv σ I (Step.reads s k h a b c d) = I
-step-inv σ I (Step.writes s k v a b c) = I
+step-inv σ I (Step.writes s k v a b c d) = I
 step-inv σ I (Step.asks s a b c d) = ask-inv σ I s a d
 step-inv σ I (Step.rests s a b c) = I
 step-inv σ I (Step.prepares t p a b c) = prepare-inv σ I t p a b c
@@ -85,7 +85,7 @@ step-below : (σ : Store) → Inv σ → (s : Step σ) (S : ℕ) → Below σ S 
 step-below σ I (Step.ticks h p x a b c) S B = B
 step-below σ I (Step.starts s a b) S B = B
 step-below σ I (Step.reads s k h a b c d) S B = B
-step-below σ I (Step.writes s k v a b c) S B = B
+step-below σ I (Step.writes s k v a b c d) S B = B
 step-below σ I (Step.asks s a b c d) S B = B
 step-below σ I (Step.rests s a b c) S B = B
 step-below σ I (Step.prepares t p a b c) S B = B

@@ -95,7 +95,7 @@ module _ (σ : Store) (I : Inv σ) (R : Reads σ) where
   step-reads (Step.ticks h p x a b c) = R
   step-reads (Step.starts s a b) = start-reads s
   step-reads (Step.reads s k h a b c d) = read-reads s k h c
-  step-reads (Step.writes s k v a b c) = write-reads s k v
+  step-reads (Step.writes s k v a b c d) = write-reads s k v
   step-reads (Step.asks s₀ a b c d) = λ s k kb st w i.
       rw (step-view σ I (σ (Snapshot s)) (I .gossip .snapshot s) (Step.asks s₀ a b c d) k kb)
       (R s k kb (unwritten (same (Status s₀) (Status s)) committing (σ (Status s)) running (λ x. omega arith) st .1) w i)
@@ -143,7 +143,7 @@ step-cached σ (Step.starts s₀ a b) C = λ s k st i.
     (λ l. rw (e, l) (leb-false (σ (CacheTime s k)) (snapshot σ s₀) l)))
     (λ q e. rw e (C s k (rw e at st) (rw e at i)))
 step-cached σ (Step.reads s k h a b c d) C = C
-step-cached σ (Step.writes s k v a b c) C = C
+step-cached σ (Step.writes s k v a b c d) C = C
 step-cached σ (Step.asks s₀ a b c d) C = λ s k st.
     C s k (unwritten (same (Status s₀) (Status s)) committing (σ (Status s)) running (λ x. omega arith) st .1)
 step-cached σ (Step.rests s₀ a b c) C = λ s k st.

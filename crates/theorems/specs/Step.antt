@@ -7,7 +7,7 @@ use mathlib.Core.Logic.{_⊎_, inl, inr, ⊎-map, ⊎-elim}
 use native.Mathlib.Omega.{arith}
 use lib.Dec.{eqb, ltb, leb}
 use borrow.Author.Tests.{eqb-true, eqb-false, ltb-true, ltb-false, leb-true, leb-false, not-true, not-false, eq-eqb}
-use Rattle.book.specs.Sizes.{hallsMax, partitionsMax, keys, placesMax, slots, readingMax}
+use Rattle.book.specs.Sizes.{hallsMax, partitionsMax, keys, placesMax, slots, valueMax, readingMax}
 use Rattle.book.specs.Cells.{Store, _⟨_≔_⟩, Halls, Partitions, Sessions, Transactions, Reading, Status, idle, running, WriteSet, CommitTime, State, asked, prepared, Waiting}
 use Rattle.book.specs.Cases.{by-eq, and-true, passed}
 use Rattle.book.specs.Folds.{any, all-at, any-false}
@@ -27,7 +27,7 @@ pub data Step (σ : Store) : Type 0 where
   ticks : (h p x : ℕ) → holds σ h p ≡ true → x ≤ readingMax → σ (Reading h p) ≤ x → Step σ
   starts : (s : ℕ) → s < σ Sessions → σ (Status s) ≡ idle → Step σ
   reads : (s k h : ℕ) → s < σ Sessions → k < keys → holds σ h (partitionOf σ k) ≡ true → σ (Status s) ≡ running → Step σ
-  writes : (s k v : ℕ) → s < σ Sessions → k < keys → σ (Status s) ≡ running → Step σ
+  writes : (s k v : ℕ) → s < σ Sessions → k < keys → v ≤ valueMax → σ (Status s) ≡ running → Step σ
   asks : (s : ℕ) → s < σ Sessions → σ (Status s) ≡ running → (σ (WriteSet s) ≡ 0 → ⊥) → σ Transactions < placesMax → Step σ
   rests : (s : ℕ) → s < σ Sessions → σ (Status s) ≡ running → σ (WriteSet s) ≡ 0 → Step σ
   prepares : (t p : ℕ) → t < σ Transactions → p < σ Partitions → σ (State t p) ≡ asked → Step σ
@@ -46,7 +46,7 @@ abbrev pub next : (σ : Store) → Step σ → Store
 next σ (ticks h p x a b c) = tick σ h p x
 next σ (starts s a b) = start σ s
 next σ (reads s k h a b c d) = read σ s k h
-next σ (writes s k v a b c) = write σ s k v
+next σ (writes s k v a b c d) = write σ s k v
 next σ (asks s a b c d) = ask σ s
 next σ (rests s a b c) = σ ⟨ Status s ≔ idle ⟩
 next σ (prepares t p a b c) = prepare σ t p
@@ -110,8 +110,10 @@ module _ (σ : Store) where
   write-taken : (s k v : ℕ) → Takes σ (writeRule σ s k v)
   write-taken s k v e =
       let a = asked-for (sessionThere σ s && ltb k keys) 3 _ (omega arith) e in
-      let b = asked-for (eqb (σ (Status s)) running) 7 _ (omega arith) (a .1) in
-      (writes s k v (session-there s _ (a .0)) (ltb-true _ _ (and-true (sessionThere σ s) _ (a .0) .1)) (eqb-true _ _ (b .0)), refl)
+      let b = passed (ltb valueMax v) 12 _ (omega arith) (a .1) in
+      let c = asked-for (eqb (σ (Status s)) running) 7 _ (omega arith) (b .1) in
+      let key = ltb-true k keys (and-true (sessionThere σ s) _ (a .0) .1) in
+      (writes s k v (session-there s _ (a .0)) key (ltb-false valueMax v (b .0)) (eqb-true _ _ (c .0)), refl)
 
   end-taken : (s y z : ℕ) → Takes σ (endRule σ s y z)
   end-taken s y z e =
