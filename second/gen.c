@@ -44,15 +44,28 @@ static u64 power(u64 base, u64 exponent) {
     return n;
 }
 
-/* A value of any length, now and then the largest. */
-static u64 any_value(void) {
+/* Near 2^32, 2^48, 2^63 or 2^64. */
+static u64 huge(void) {
+    static const unsigned char bits[] = {32, 48, 48, 48, 63, 64, 64};
+    u64 bit = bits[below(sizeof bits)];
+    u64 near = bit == 64 ? 0 : UINT64_C(1) << bit;
+    return near + below(5) - (bit == 64 ? 5 : 2);
+}
+
+/* Mostly small, now and then the ceiling or one below. */
+static u64 good_value(void) {
     u64 kind = below(12);
     if (kind < 8)
         return below(1000);
-    u64 value = draw();
-    if (kind < 10)
-        return value >> 20;
-    return kind == 10 ? value : UINT64_MAX - value % 3;
+    return kind < 10 ? below(CEILING + 1) : CEILING - below(2);
+}
+
+/* Above the ceiling by one, by little or by far. */
+static u64 bad_value(void) {
+    u64 kind = below(3);
+    if (kind == 0)
+        return CEILING + 1;
+    return kind == 1 ? CEILING + 1 + below(1000) : huge();
 }
 
 /* ---- Steps ---- */
@@ -132,7 +145,7 @@ static struct Step nth(u64 code, u64 index) {
     if (code == READ || code == WRITE)
         s.n[2] = (key_base + s.n[2]) % KEYS;
     if (code == WRITE)
-        s.n[3] = any_value();
+        s.n[3] = good_value();
     if (code == TICK && holds(&store, s.n[1], s.n[2]))
         s.n[3] = next_reading(s.n[1], s.n[2]);
     return s;
@@ -373,6 +386,21 @@ static bool good(u64 code) {
     return found;
 }
 
+/* "A write above that is a slip": by any session, running or not. */
+static void slip(void) {
+    u64 session = below(sessions), key = any_key();
+    add_step(WRITE, session, key, bad_value());
+}
+
+/* A step that is taken, or a slip in place of some writes. */
+static void good_or_slip(const unsigned *weights) {
+    u64 code = weighted(weights);
+    if (code == WRITE && chance(10))
+        slip();
+    else
+        good(code);
+}
+
 /* No transaction stays prepared. */
 static void finish(void) {
     each(PREPARE);
@@ -418,7 +446,7 @@ static void tie(void) {
         u64 session = (first + i * more) % sessions;
         add_step(MOVE, session, i == 0 ? one : other, partition);
         add_step(START, session, 0, 0);
-        add_step(WRITE, session, key, any_value());
+        add_step(WRITE, session, key, good_value());
         add_step(END, session, 0, 0);
     }
     each(PREPARE);
@@ -481,7 +509,7 @@ static void mixed(size_t target) {
         if (chance(2))
             wave();
         else
-            good(weighted(step_count / 64 % 2 == 0 ? busy : usual));
+            good_or_slip(step_count / 64 % 2 == 0 ? busy : usual);
     }
     settle();
     catch_up();
@@ -515,7 +543,7 @@ static void rounds(void) {
     begin();
     for (u64 turns = 2 + below(6); turns > 0; turns--) {
         for (u64 i = 20 + below(60); i > 0; i--)
-            good(weighted(busy));
+            good_or_slip(busy);
         if (chance(30))
             moves();
         if (chance(30))
@@ -538,13 +566,6 @@ static void rounds(void) {
 
 /* ---- Bad steps ---- */
 
-static u64 huge(void) {
-    static const unsigned char bits[] = {32, 48, 48, 48, 63, 64, 64};
-    u64 bit = bits[below(sizeof bits)];
-    u64 near = bit == 64 ? 0 : UINT64_C(1) << bit;
-    return near + below(5) - (bit == 64 ? 5 : 2);
-}
-
 static u64 out_of_range(void) {
     static const unsigned char numbers[] = {2, 3, 4, 5, 15, 16, 17, 31, 32, 33, 63, 64, 65, 100};
     return numbers[below(sizeof numbers)];
@@ -555,10 +576,13 @@ static struct Step any_step(u64 code) {
     return size == 0 ? (struct Step){{code, 1, 0, 0}} : nth(code, below(size));
 }
 
+/* More writes than other steps: 3, 12 and 7 may all be due for one. */
 static void bad_step(void) {
-    u64 kind = below(7);
-    struct Step s = any_step(1 + below(LAST_CODE));
+    u64 kind = below(7), code = 1 + below(LAST_CODE);
+    struct Step s = any_step(chance(10) ? WRITE : code);
     u64 place = 1 + below(3);
+    if (s.n[0] == WRITE && chance(50))
+        s.n[3] = bad_value();
     if (kind == 0) { /* unknown code */
         u64 near = LAST_CODE + 1 + below(4);
         s.n[0] = chance(30) ? 0 : chance(50) ? near : huge();
@@ -603,7 +627,7 @@ static void bad(void) {
         else if (chance(2))
             crowd();
         else
-            good(weighted(busy));
+            good_or_slip(busy);
     }
     if (chance(8))
         spoil_setup();
@@ -614,8 +638,10 @@ static void bad(void) {
 static void write_many(u64 session, u64 count) {
     u64 first = below(KEYS), stride = 1 + 2 * below(KEYS / 2);
     for (u64 i = 0; i < count; i++) {
-        u64 value = chance(5) ? any_value() : below(1000);
-        add_step(WRITE, session, (first + i * stride) % KEYS, value);
+        u64 key = (first + i * stride) % KEYS;
+        add_step(WRITE, session, key, good_value());
+        if (chance(3))
+            add_step(WRITE, session, key, bad_value());
     }
 }
 
@@ -716,13 +742,17 @@ static void paced_step(size_t spare, size_t last) {
     bool early = store.requests * last > REQUESTS * (step_count + 40);
     if (code == END && early)
         code = READ;
-    if (slack() > share + 20 && find_good(code, SHORTEST_STEP + 20, &s) && may_stand(s))
+    bool longer = slack() > share + 20;
+    if (longer && code == WRITE && chance(10))
+        slip();
+    else if (longer && find_good(code, SHORTEST_STEP + 20, &s) && may_stand(s))
         add_and_walk(s);
     else
         short_step();
 }
 
-/* The last writes take up the bytes left to the limit with the digits of their values. */
+/* The last writes take up the bytes left to the limit with the digits of their values: at most five
+ * each, so that they are taken. */
 static void last_writes(void) {
     struct Step s;
     while (step_count < STEP_LIMIT && !no_room) {
@@ -730,8 +760,8 @@ static void last_writes(void) {
             good(START);
             continue;
         }
-        size_t more = slack() < 18 ? slack() : 18;
-        s.n[3] = more == 0 ? below(10) : power(10, more) + below(power(10, more));
+        size_t more = slack() < 4 ? slack() : 4;
+        s.n[3] = more == 0 ? below(10) : power(10, more) + below(9 * power(10, more));
         add(s);
     }
 }

@@ -1,5 +1,5 @@
-/* The rules of document 01 and of requests a and b of document 02; each function quotes the words
- * it follows. */
+/* The rules of document 01 and of requests a, b and c of document 02; each function quotes the
+ * words it follows. */
 #include "store.h"
 
 #include <string.h>
@@ -265,6 +265,9 @@ static bool channel_full(const struct Store *store, u64 hall, u64 partition) {
 unsigned refusal(const struct Store *store, u64 code, u64 a, u64 b, u64 c) {
     if (not_there(store, code, a, b, c))
         return 3;
+    /* "bad value, checked right after 3" */
+    if (code == WRITE && c > CEILING)
+        return 12;
     if (code == TICK && c > LAST_READING)
         return 4;
     if (code == TICK && c < store->server[a][b].reading)

@@ -1,4 +1,4 @@
-/* The recipe store of document 01 and of requests a and b of document 02, kept in plain structs
+/* The recipe store of document 01 and of requests a, b and c of document 02, kept in plain structs
  * and lists. */
 #ifndef STORE_H
 #define STORE_H
@@ -7,7 +7,7 @@
 #include <stddef.h>
 #include <stdint.h>
 
-typedef uint64_t u64; /* "values any u64" */
+typedef uint64_t u64; /* "Decimal numbers up to 2^64 - 1" */
 
 /* "Sizes: 1 to 4 halls; 1 to 4 partitions; 1 to 16 sessions; keys 0 to 31 [...] 64 commit
  * requests with writes per run; 8 messages per channel" */
@@ -15,6 +15,9 @@ enum { HALLS = 4, PARTITIONS = 4, SESSIONS = 16, KEYS = 32, REQUESTS = 64, PLACE
 
 /* "clock readings 0 to 2^48 - 1" */
 #define LAST_READING ((UINT64_C(1) << 48) - 1)
+
+/* "Values to 100,000 are taken." */
+enum { CEILING = 100000 };
 
 /* "The thirteen steps", "New step 14" */
 enum Code {
