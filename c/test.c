@@ -131,6 +131,7 @@ static void lay(void) {
 
 /* ---- Well formed: docs/ROOM.md. The largest number that keeps the room so in a word, the others as they are. ---- */
 
+/* Values may be any number, too: the ceiling is the write step's, and not the room's. */
 static const u64 any = UINT64_MAX;
 
 static u64 last_holder(u64 partition) {
