@@ -5,11 +5,11 @@ use lib.Dec.{eqb, ltb, leb}
 use Rattle.book.specs.declared.Answer.{Answer}
 use Rattle.book.specs.declared.Answer.the-variants.{Answered, Own, Read}
 use Rattle.book.specs.Sizes.{keys, partitionsMax}
-use Rattle.book.specs.Cells.{Store, _⟨_≔_⟩, each2, Transactions, Reading, Stable, HomeHall, HomePartition, Status, idle, running, committing, Snapshot, WriteSet, ReadSet, WriteValue, ReadValue, CacheValue, CacheTime, By, From, KeySet, Value, State, asked}
+use Rattle.book.specs.Cells.{Store, _⟨_≔_⟩, each2, Transactions, Stable, HomeHall, HomePartition, Status, idle, running, committing, Snapshot, WriteSet, ReadSet, WriteValue, ReadValue, CacheValue, CacheTime, By, From, KeySet, Value, State, asked}
 use Rattle.book.specs.Folds.{any, count}
 use Rattle.book.specs.Sets.{member, include}
 use Rattle.book.specs.Answers.{numbers}
-use Rattle.book.specs.Servers.{partitionOf, atHome, numberOf}
+use Rattle.book.specs.Servers.{present, partitionOf, atHome, numberOf}
 use Rattle.book.specs.Views.{heldView}
 
 -- 2. Start (session). "S becomes the larger of the coordinator's and the session's stable time"
@@ -26,9 +26,10 @@ start σ s =
     ⟨ ReadSet s ≔ 0 ⟩
     ⟨ Status s ≔ running ⟩)
 
--- "reading minus S, or 0 if S is larger": the difference of numbers, which does not go below 0
+-- document 02, d: "the coordinator's hybrid clock, or its reading if larger, minus S". The difference of natural numbers: in a reached store "S is
+-- never the larger" (crates/theorems Lag), in another it would be 0.
 abbrev pub lag : Store → ℕ → ℕ
-lag σ s = σ (atHome σ Reading s) - snapshot σ s
+lag σ s = present σ (σ (HomeHall s)) (σ (HomePartition s)) - snapshot σ s
 
 -- "Answers S and the lag"
 abbrev pub startAnswer : Store → ℕ → Answer

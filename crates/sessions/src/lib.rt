@@ -8,7 +8,7 @@ ghost use Rattle.book.specs.Sizes.{hallsMax, partitionsMax, sessionsMax, keys, 
 ghost use Rattle.book.specs.Cells.{cell, _⟨_≔_⟩, Transactions};
 ghost use Rattle.book.specs.Folds.{count};
 ghost use Rattle.book.specs.Sets.{member, include};
-ghost use Rattle.book.specs.Servers.{partitionOf};
+ghost use Rattle.book.specs.Servers.{present as presentAt, partitionOf};
 ghost use Rattle.book.specs.SessionSteps.{start as startStore, startAnswer, read as readStore, readAnswer, write as writeStore, hasWrites, touches as touched, end as endStore, endAnswer, move as moveStore};
 ghost use Rattle.room.specs.Layout.{size, Within, store};
 ghost use Rattle.views.specs.Partitions.{Parted};
@@ -25,6 +25,7 @@ use room::CACHE_VALUE;
 use room::FROM;
 use room::HOME_HALL;
 use room::HOME_PARTITION;
+use room::HYBRID;
 use room::KEY_SET;
 use room::READ_SET;
 use room::READ_VALUE;
@@ -39,15 +40,21 @@ use room::WRITE_SET;
 use room::WRITE_VALUE;
 use times::larger;
 
-// "reading minus S, or 0 if S is larger"
-fn lag(reading: Reading, snapshot: Timestamp) -> u64
-    ensures { λ r. ⌜ r ≡ reading .0 - snapshot .0 ⌝ }
+// document 02, d: "the coordinator's hybrid clock, or its reading if larger"; (h, p) is the coordinator.
+fn present_at(room: &[u64], h: usize, p: usize) -> Timestamp
+    requires { ⌜ (length (now room) ≡ size) × (h < hallsMax) × (p < partitionsMax) ⌝ }
+    ensures { λ r. ⌜ r .0 ≡ presentAt (store (now (room .entry))) h p ⌝ }
 {
-    if snapshot.0 < reading.0 {
-        reading.0 - snapshot.0
-    } else {
-        0
-    }
+    let reading = Reading(room::get(room, READING, h, p, 0, 0));
+    let hybrid = Timestamp(room::get(room, HYBRID, h, p, 0, 0));
+    larger(Timestamp(reading.0), hybrid)
+}
+
+// "minus S". The larger of the present and S is not below S, whatever the room has, so the difference cannot wrap.
+fn lag(present: Timestamp, snapshot: Timestamp) -> u64
+    ensures { λ r. ⌜ r ≡ present .0 - snapshot .0 ⌝ }
+{
+    larger(present, snapshot).0 - snapshot.0
 }
 
 // "both keep it. Write and read sets are emptied"; (h, p) is the coordinator.
@@ -90,11 +97,11 @@ pub fn start(room: &mut [u64], s: usize) -> Answer
     let p = room::get(room, HOME_PARTITION, s, 0, 0, 0) as usize;
     let stable = Timestamp(room::get(room, STABLE, h, p, 0, 0));
     let before = Timestamp(room::get(room, SNAPSHOT, s, 0, 0, 0));
-    let reading = Reading(room::get(room, READING, h, p, 0, 0));
+    let present = present_at(room, h, p);
     let snapshot = larger(stable, before);
     begin(room, s, h, p, snapshot);
     clean_cache(room, s, snapshot);
-    Answer::Answered(snapshot.0, lag(reading, snapshot))
+    Answer::Answered(snapshot.0, lag(present, snapshot))
 }
 
 // Key k with value v enters a set of session s; `set` and `values` are the kinds of its cells.
