@@ -21,6 +21,7 @@ first-inv masks homes z =
         proposed = λ t p e. absurd (omega arith);
         above = λ t p e. absurd (omega arith);
         waits = λ t p e. absurd (omega arith);
+        committed = λ t p l. absurd (omega arith);
       };
       states = record {
         places = omega arith;

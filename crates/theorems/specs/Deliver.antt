@@ -38,6 +38,7 @@ module _ (σ : Store) (I : Inv σ) (p f g : ℕ) (apart : f ≡ g → ⊥) (some
     proposed = I .clocks .proposed;
     above = λ t q e. rw (deliver-own (writer σ t q) q) (I .clocks .above t q e);
     waits = λ t q e. rw (deliver-own (writer σ t q) q) (I .clocks .waits t q e);
+    committed = I .clocks .committed;
   }
 
   -- the channel that is read, after it: each message has moved up by one, and the oldest is the entry

@@ -21,6 +21,8 @@ Clocks σ = record {
   above : (t p : ℕ) → σ (State t p) ≡ prepared → σ (Entry (writer σ t p) p (writer σ t p)) < σ (Proposed t p);
   -- a waiting pair's commit time is above its writing server's version clock
   waits : (t p : ℕ) → σ (State t p) ≡ waiting → σ (Entry (writer σ t p) p (writer σ t p)) < σ (CommitTime t);
+  -- the commit time of a waiting or installed pair is at most its writing server's hybrid clock
+  committed : (t p : ℕ) → waiting ≤ σ (State t p) → σ (CommitTime t) ≤ σ (Hybrid (writer σ t p) p);
 }
 
 -- the states of the transactions

@@ -25,6 +25,7 @@ pub mod OwnWrites
 pub mod ReadYourWrites
 pub mod Carried
 pub mod Ceiling
+pub mod Lag
 pub mod Calls
 pub mod Quiet
 pub mod Round

@@ -72,7 +72,7 @@ either true b e = inl refl
 either false b e = inr e
 
 module _ (σ : Store) where
-  session-there : (s : ℕ) (b : Bool) → (sessionThere σ s && b) ≡ true → s < σ Sessions
+  pub session-there : (s : ℕ) (b : Bool) → (sessionThere σ s && b) ≡ true → s < σ Sessions
   session-there s b e = ltb-true s (σ Sessions) (and-true (sessionThere σ s) b e .0)
 
   -- a transaction number that is there is one more than a place in use, and the partition beside it is there
