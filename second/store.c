@@ -1,7 +1,8 @@
-/* The rules of document 01 and of requests a, b and c of document 02; each function quotes the
- * words it follows. */
+/* The rules of document 01 and of requests a to d of document 02; each function quotes the words
+ * it follows. */
 #include "store.h"
 
+#include <assert.h>
 #include <string.h>
 
 /* "the larger of", "the lowest" */
@@ -303,18 +304,21 @@ static struct Answer tick(struct Store *store, u64 hall, u64 partition, u64 read
 
 /* 2. "S becomes the larger of the coordinator's and the session's stable time; both keep it.
  * Write and read sets are emptied; cache entries with time at or below S go. Answers S and the
- * lag: reading minus S, or 0 if S is larger." */
+ * lag", which is "the coordinator's hybrid clock, or its reading if larger, minus S." That "S is
+ * never the larger" is watched: every start tests it. */
 static struct Answer start(struct Store *store, u64 session) {
     struct Session *s = &store->session[session];
     struct Server *coordinator = &store->server[s->home.hall][s->home.partition];
     u64 snapshot = larger(coordinator->stable, s->snapshot);
+    u64 clock = larger(coordinator->hybrid, coordinator->reading);
+    assert(snapshot <= clock);
     s->snapshot = snapshot;
     coordinator->stable = snapshot;
     s->write_set.count = 0;
     s->read_set.count = 0;
     clean(&s->cache, snapshot);
     s->phase = RUNNING;
-    return answers(snapshot, snapshot > coordinator->reading ? 0 : coordinator->reading - snapshot);
+    return answers(snapshot, clock - snapshot);
 }
 
 /* "Looks in write set, read set, cache" */

@@ -1,5 +1,5 @@
-/* The recipe store of document 01 and of requests a, b and c of document 02, kept in plain structs
- * and lists. */
+/* The recipe store of document 01 and of requests a to d of document 02, kept in plain structs and
+ * lists. */
 #ifndef STORE_H
 #define STORE_H
 
