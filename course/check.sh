@@ -22,5 +22,5 @@ for folder in [0-9]*/; do
     count=$((count + 1))
 done
 [ "$(grep -c '^course-' "$data/list")" -eq "$count" ] || fails "runs has other lessons"
-[ "$count" -ge 8 ] || fails "only $count lessons"
+[ "$count" -ge 9 ] || fails "only $count lessons"
 echo "course: $count lessons agree"
