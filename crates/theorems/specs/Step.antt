@@ -13,12 +13,12 @@ use Rattle.book.specs.Cases.{by-eq, and-true, passed}
 use Rattle.book.specs.Folds.{any, all-at, any-false}
 use Rattle.book.specs.Servers.{holds, partitionOf, placeOf}
 use Rattle.book.specs.Views.{decided}
-use Rattle.book.specs.SessionSteps.{start, read, write, hasWrites, ask, move}
+use Rattle.book.specs.SessionSteps.{start, startAnswer, read, write, hasWrites, ask, move}
 use Rattle.book.specs.CommitSteps.{tick, prepare, decide, commit}
 use Rattle.book.specs.ReplicationSteps.{sendsTo, install, deliver}
 use Rattle.book.specs.GossipSteps.{report, share, learn}
 use Rattle.book.specs.Refusals.{sessionThere, transactionThere, unused, allPrepared, serverRefusal}
-use Rattle.book.specs.Steps.{Rule, by-code, refusal, after, refused-unchanged, tickRule, startRule, readRule, writeRule, endRule, prepareRule, decideRule, commitRule, installRule, deliverRule, shareRule, moveRule}
+use Rattle.book.specs.Steps.{Rule, ruleOf, by-code, refusal, after, answer, refused-unchanged, tickRule, startRule, readRule, writeRule, endRule, prepareRule, decideRule, commitRule, installRule, deliverRule, shareRule, moveRule}
 use Rattle.book.specs.Setup.{setupRefusal, firstStore}
 use Rattle.book.specs.Reached.{Reached, Later}
 
@@ -198,6 +198,11 @@ module _ (σ : Store) where
       (move-taken a b c)
       (λ r. absurd (omega arith)) e in
       (w .0, rw (eq-eqb _ _ e) (w .1))
+
+  -- what a start that is taken answers
+  pub start-answers : (s : ℕ) → refusal σ 2 s 0 0 ≡ 0 → answer σ 2 s 0 0 ≡ startAnswer σ s
+  unfolding refusal answer ruleOf
+  start-answers s e = rw (eq-eqb _ _ e)
 
   pub step-or-same : (code a b c : ℕ) → ((s : Step σ) × (after σ code a b c ≡ next σ s)) ⊎ (after σ code a b c ≡ σ)
   step-or-same code a b c =
