@@ -15,12 +15,11 @@ use Rattle.theorems.specs.WellFormedKept.{setup-formed}
 use Rattle.room.specs.Layout.{size, store}
 use Rattle.room.specs.Lay.{lay, length-lay}
 use Rattle.setup.specs.Outcome.{Outcome}
-use Rattle.setup.specs.Laid.{first-laid}
 use Rattle.script.specs.Printout.{before, lineOf, refused, countedFrom, setupFrom, setup-refused}
 
 module _ (r masks homes text : List ℕ) (at : ℕ) (fits : length r ≡ size) {x : Answer} {left : List ℕ} (o : Outcome r masks homes x left) where
   given : x ≡ setupAnswer masks homes
-  given = rw (eq-eqb (length r) size fits) at (o .0)
+  given = rw (eq-eqb (length r) size fits) at (o .answer)
 
   good : {n v : ℕ} → x ≡ Answered n v → setupRefusal masks homes ≡ 0
   unfolding setupAnswer
@@ -37,8 +36,8 @@ module _ (r masks homes text : List ℕ) (at : ℕ) (fits : length r ≡ size) {
   unfolding setupFrom
   taken e =
       let z = good e in
-      let laid : left ≡ lay (firstStore masks homes) = rw (eq-eqb (length r) size fits, z) at (o .1) in
-      let first : store left ≡ firstStore masks homes = ap store laid ∙ first-laid masks homes in
+      let laid : left ≡ lay (firstStore masks homes) = rw (eq-eqb (length r) size fits, z) at (o .room) in
+      let first : store left ≡ firstStore masks homes = rw (eq-eqb (length r) size fits, z) at (o .store) in
       (ap length laid ∙ length-lay (firstStore masks homes), rw first (setup-formed masks homes z), rw (← given, e, z, first))
 
   -- it answers otherwise: `0 2 0 0`, and the room is as it was
@@ -47,4 +46,4 @@ module _ (r masks homes text : List ℕ) (at : ℕ) (fits : length r ≡ size) {
   unfolding setupAnswer
   turned-away f =
       let z : setupRefusal masks homes ≡ 0 → ⊥ = λ q. f _ _ (rw q at given) in
-      (rw (eq-eqb (length r) size fits, ne-eqb (setupRefusal masks homes) 0 z) at (o .1), setup-refused masks homes text at (store r) z)
+      (rw (eq-eqb (length r) size fits, ne-eqb (setupRefusal masks homes) 0 z) at (o .room), setup-refused masks homes text at (store r) z)

@@ -2,16 +2,17 @@
 use Prim.Native.Nat.{ℕ, _%_}
 use mathlib.Core.Bool.{true, false, cond, _&&_}
 use mathlib.Core.List.{List}
-use mathlib.Core.Path.{_≡_, refl}
+use mathlib.Core.Path.{_≡_, refl, sym, _∙_}
 use lib.Dec.{eqb}
 use lib.ListN.{length}
 use borrow.Author.Tests.{eq-eqb, ne-eqb}
 use Rattle.book.specs.declared.Answer.{Answer}
 use Rattle.book.specs.declared.Answer.the-variants.{Refused, Answered}
-use Rattle.book.specs.Cells.{Partitions}
+use Rattle.book.specs.Cells.{Store, Partitions}
 use Rattle.book.specs.Setup.{goodSetup, firstStore, setupRefusal, servers, setupAnswer}
-use Rattle.room.specs.Layout.{size}
+use Rattle.room.specs.Layout.{size, store}
 use Rattle.room.specs.Lay.{lay}
+use Rattle.setup.specs.Laid.{first-laid}
 
 -- number 1: "room of wrong length"
 abbrev pub setupGiven : List ℕ → List ℕ → List ℕ → Answer
@@ -21,31 +22,45 @@ setupGiven r masks homes = cond (eqb (length r) size) (setupAnswer masks homes) 
 abbrev pub setupRoom : List ℕ → List ℕ → List ℕ → List ℕ
 setupRoom r masks homes = cond (eqb (length r) size && eqb (setupRefusal masks homes) 0) (lay (firstStore masks homes)) r
 
--- what the contract asks of an answer and of the room left
-abbrev pub Outcome : List ℕ → List ℕ → List ℕ → Answer → List ℕ → Type 0
-Outcome r masks homes answer left = (answer ≡ setupGiven r masks homes) × (left ≡ setupRoom r masks homes)
+-- the store that its words are read as
+abbrev pub setupStore : List ℕ → List ℕ → List ℕ → Store
+setupStore r masks homes = cond (eqb (length r) size && eqb (setupRefusal masks homes) 0) (firstStore masks homes) (store r)
 
--- one answer and one room meet it, and no other
-pub setup-one-outcome : (r masks homes : List ℕ)
-    → (answer : Answer) × (left : List ℕ) × Outcome r masks homes answer left
-    × ((a : Answer) (l : List ℕ) → Outcome r masks homes a l → (a ≡ answer) × (l ≡ left))
-setup-one-outcome r masks homes = (setupGiven r masks homes, setupRoom r masks homes, (refl, refl), λ a l o. o)
+-- what the contract asks of an answer x and of the room left
+pub record Outcome (r masks homes : List ℕ) (x : Answer) (left : List ℕ) : Type 0 where
+  pub answer : x ≡ setupGiven r masks homes
+  pub room : left ≡ setupRoom r masks homes
+  pub store : store left ≡ setupStore r masks homes
+
+-- No second outcome fits.
+pub setup-one-outcome : {r masks homes : List ℕ} {x y : Answer} {left late : List ℕ}
+    → Outcome r masks homes x left → Outcome r masks homes y late → (x ≡ y) × (left ≡ late)
+setup-one-outcome s t = (s .answer ∙ sym (t .answer), s .room ∙ sym (t .room))
 
 -- the four ways that a setup ends
 module _ (r masks homes : List ℕ) where
   pub other-size : (length r ≡ size → ⊥) → Outcome r masks homes (Refused 1) r
-  other-size e = rw (ne-eqb (length r) size e) (refl, refl)
+  other-size e = let f = ne-eqb (length r) size e in record { answer = rw f; room = rw f; store = rw f }
 
   module _ (fits : length r ≡ size) where
     pub odd-homes : (length homes % 2 ≡ 0 → ⊥) → Outcome r masks homes (Refused 2) r
     unfolding setupAnswer setupRefusal
-    odd-homes e = rw (eq-eqb (length r) size fits, ne-eqb (length homes % 2) 0 e) (refl, refl)
+    odd-homes e =
+        let f = eq-eqb (length r) size fits in
+        let g = ne-eqb (length homes % 2) 0 e in
+        record { answer = rw (f, g); room = rw (f, g); store = rw (f, g) }
 
     pub bad-numbers : length homes % 2 ≡ 0 → goodSetup (firstStore masks homes) ≡ false → Outcome r masks homes (Refused 2) r
     unfolding setupAnswer setupRefusal
-    bad-numbers e b = rw (eq-eqb (length r) size fits, eq-eqb (length homes % 2) 0 e, b) (refl, refl)
+    bad-numbers e b =
+        let f = eq-eqb (length r) size fits in
+        let g = eq-eqb (length homes % 2) 0 e in
+        record { answer = rw (f, g, b); room = rw (f, g, b); store = rw (f, g, b) }
 
     pub good-numbers : length homes % 2 ≡ 0 → goodSetup (firstStore masks homes) ≡ true
         → Outcome r masks homes (Answered (firstStore masks homes Partitions) (servers (firstStore masks homes))) (lay (firstStore masks homes))
     unfolding setupAnswer setupRefusal
-    good-numbers e b = rw (eq-eqb (length r) size fits, eq-eqb (length homes % 2) 0 e, b) (refl, refl)
+    good-numbers e b =
+        let f = eq-eqb (length r) size fits in
+        let g = eq-eqb (length homes % 2) 0 e in
+        record { answer = rw (f, g, b); room = rw (f, g, b); store = rw (f, g, b) (first-laid masks homes) }

@@ -10,12 +10,8 @@ use Rattle.book.specs.declared.Answer.{Answer}
 use Rattle.book.specs.declared.Answer.the-variants.{Refused}
 use Rattle.book.specs.Cells.{Store}
 use Rattle.book.specs.Cases.{by-test, and-true}
-use Rattle.book.specs.Servers.{holds}
-use Rattle.book.specs.ReplicationSteps.{isQuiet}
 use Rattle.book.specs.Steps.{ruleOf, refusal, after, answer, refused-unchanged}
 use Rattle.book.specs.WellFormed.{wellFormed}
-use Rattle.book.specs.Reached.{Reached}
-use Rattle.theorems.specs.Quiet.{quiet-install}
 use Rattle.room.specs.Layout.{size, store}
 use Rattle.room.specs.Lay.{lay, length-lay, lay-store, onto}
 
@@ -30,10 +26,15 @@ stepAnswer r code a b c = cond (sound r) (answer (store r) code a b c) (Refused 
 abbrev pub stepRoom : List ℕ → ℕ → ℕ → ℕ → ℕ → List ℕ
 stepRoom r code a b c = cond (sound r) (lay (after (store r) code a b c)) r
 
--- what the public step promises of its answer x and of the room late that it leaves
+-- cell for cell
+abbrev pub stepStore : List ℕ → ℕ → ℕ → ℕ → ℕ → Store
+stepStore r code a b c = cond (sound r) (after (store r) code a b c) (store r)
+
+-- what the public step promises of its answer x and of the room late that it leaves: its words, and the store that they are read as
 pub record Stepped (r : List ℕ) (code a b c : ℕ) (x : Answer) (late : List ℕ) : Type 0 where
   pub answer : x ≡ stepAnswer r code a b c
   pub room : late ≡ stepRoom r code a b c
+  pub store : store late ≡ stepStore r code a b c
 
 -- the same of a room that is known to be well formed, and stays so
 pub record Moved (r : List ℕ) (code a b c : ℕ) (x : Answer) (late : List ℕ) : Type 0 where
@@ -67,7 +68,8 @@ taken σ code a b c e = (rw (eq-eqb (refusal σ code a b c) 0 e), rw (eq-eqb (re
 
 -- the inner step's promise is the public one's, where the room is sound
 pub moved-stepped : {r : List ℕ} {code a b c : ℕ} {x : Answer} {late : List ℕ} → sound r ≡ true → Moved r code a b c x late → Stepped r code a b c x late
-moved-stepped {late = late} e m = record { answer = rw e (m .answer); room = rw e (sym (lay-store late (m .size)) ∙ ap lay (m .store)) }
+moved-stepped {late = late} e m =
+    record { answer = rw e (m .answer); room = rw e (sym (lay-store late (m .size)) ∙ ap lay (m .store)); store = rw e (m .store) }
 
 -- a step that changes no cell changes no word
 pub no-word : {r : List ℕ} {code a b c : ℕ} {x : Answer} {late : List ℕ} → after (store r) code a b c ≡ store r → Stepped r code a b c x late → late ≡ r
@@ -75,11 +77,6 @@ no-word {r} e s =
     by-test (sound r)
     (λ t. s .room ∙ rw (t, e) (lay-store r (eqb-true (length r) size (and-true (eqb (length r) size) _ t .0))))
     (λ t. s .room ∙ rw t)
-
--- so a quiet install changes no word of a reached store
-pub quiet-no-word : {r : List ℕ} {h p : ℕ} {x : Answer} {late : List ℕ} → Reached (store r) → holds (store r) h p ≡ true → isQuiet (store r) h p ≡ true
-    → Stepped r 9 h p 0 x late → late ≡ r
-quiet-no-word {h = h} {p = p} reached e quiet = no-word (quiet-install reached h p e quiet .1)
 
 -- a step leaves a room as long as it was
 pub step-length : {r : List ℕ} {code a b c : ℕ} {x : Answer} {late : List ℕ} → Stepped r code a b c x late → length late ≡ length r

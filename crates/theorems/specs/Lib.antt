@@ -26,6 +26,7 @@ pub mod ReadYourWrites
 pub mod Carried
 pub mod Ceiling
 pub mod Lag
+pub mod Ladders
 pub mod Calls
 pub mod Quiet
 pub mod Round
