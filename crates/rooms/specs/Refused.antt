@@ -16,7 +16,7 @@ use Rattle.book.specs.Cases.{by-test, by-eq, choose}
 use Rattle.book.specs.Answers.{triple, numbers}
 use Rattle.book.specs.Setup.{setupRefusal, setupAnswer}
 use Rattle.book.specs.Steps.{Rule, by-code, refusal, answer, refused-unchanged, answer-refusal}
-use Rattle.theorems.specs.Ladders.{from-three}
+use Rattle.theorems.specs.Ladders.{in-table}
 use Rattle.room.specs.Layout.{size, store}
 use Rattle.setup.specs.Outcome.{Outcome, setupGiven}
 use Rattle.store.specs.Face.{Stepped, sound, stepAnswer, no-word}
@@ -67,7 +67,7 @@ pub one-exactly : {r : List ℕ} {code a b c : ℕ} {x : Answer} {late : List �
 one-exactly {r} {code} {a} {b} {c} {x} s = (
   λ e. by-test (sound r)
       (λ t. let g : given x ≡ refusal (store r) code a b c = rw t at (ap given (s .answer)) ∙ answer-refusal (store r) code a b c in
-      absurd (⊎-elim (λ z. omega arith) (λ z. omega arith) (from-three (store r) code a b c)))
+      absurd (⊎-elim (λ z. omega arith) (λ z. omega arith) (in-table (store r) code a b c)))
       (λ t. t),
   λ t. ap given (s .answer) ∙ rw t,
 )

@@ -1,13 +1,13 @@
 -- How long a printout is at most.
 use Prim.Native.Nat.{ℕ, zero, suc, _+_, _*_, _%_, _<_, _≤_}
-use mathlib.Core.Bool.{Bool, true, false, cond, _&&_}
+use mathlib.Core.Bool.{cond, _&&_}
 use mathlib.Core.List.{List, []}
 use mathlib.Core.Path.{_≡_, refl}
+use mathlib.Core.Logic.{⊎-elim}
 use native.Mathlib.Nat.{le-refl}
 use native.Mathlib.Omega.{arith}
 use lib.Dec.{eqb, ltb}
 use lib.ListN.{length, length-append}
-use borrow.Author.Needs.{needs}
 use borrow.Author.Tests.{ltb-false}
 use Rattle.scan.specs.declared.Cursor.{Cursor}
 use Rattle.scan.specs.declared.Four.{Four}
@@ -24,7 +24,8 @@ use Rattle.book.specs.Cells.{Store}
 use Rattle.book.specs.Cases.{by-test}
 use Rattle.book.specs.Answers.{numbers}
 use Rattle.book.specs.Setup.{goodSetup, firstStore, setupRefusal, setupAnswer}
-use Rattle.book.specs.Steps.{Rule, refusal, after, answer, by-code, answer-refusal}
+use Rattle.book.specs.Steps.{refusal, after, answer, answer-refusal}
+use Rattle.theorems.specs.Ladders.{in-table}
 use Rattle.script.specs.Printout.{textMax, Outcome, only, lineOf, stop, refused, stepsFrom, countedFrom, setupFrom, sessionsFrom, hallsFrom, outcome}
 
 -- a line for setup and for each of 8,000 steps, and a script line
@@ -32,17 +33,9 @@ abbrev pub capacity : ℕ
 capacity = (countMax + 1) * lineMax + scriptMax
 
 -- every number given has two digits at most
-rung : (b : Bool) (n r : ℕ) → n < 100 → r < 100 → cond b n r < 100
-rung true n r h l = h
-rung false n r h l = l
-
 step-small : (σ : Store) (code a b c : ℕ) → numbers (answer σ code a b c) .refusal < 100
-unfolding refusal
-step-small σ code a b c = rw (answer-refusal σ code a b c)
-    (by-code (λ (x : Rule). x .refusal < 100) σ code a b c
-    (search (rung, needs)) (search (rung, needs)) (search (rung, needs)) (search (rung, needs)) (search (rung, needs))
-    (search (rung, needs)) (search (rung, needs)) (search (rung, needs)) (search (rung, needs)) (search (rung, needs))
-    (search (rung, needs)) (search (rung, needs)) (search (rung, needs)) (search (rung, needs)) (search (rung, needs)))
+step-small σ code a b c =
+    rw (answer-refusal σ code a b c) (⊎-elim (λ z. omega arith) (λ z. omega arith) (in-table σ code a b c))
 
 setup-small : (masks homes : List ℕ) → numbers (setupAnswer masks homes) .refusal < 100
 unfolding setupAnswer setupRefusal
@@ -54,7 +47,7 @@ Short m o = length (o .bytes) ≤ m
 
 -- what holds in each case holds
 module _ (P : Outcome → Type 0) where
-  by-four : (x : Four) {f : ℕ → Outcome} {g : ℕ → ℕ → ℕ → ℕ → Cursor → Outcome} → ((k : ℕ) → x ≡ BadFour k → P (f k))
+  pub by-four : (x : Four) {f : ℕ → Outcome} {g : ℕ → ℕ → ℕ → ℕ → Cursor → Outcome} → ((k : ℕ) → x ≡ BadFour k → P (f k))
       → ((code a b c : ℕ) (p : Cursor) → x ≡ Step code a b c p → P (g code a b c p)) → P (onFour x f g)
   by-four (BadFour k) h l = h k refl
   by-four (Step code a b c p) h l = l code a b c p refl

@@ -1,5 +1,6 @@
 pub mod Printout
 pub mod Length
+pub mod Reaches
 pub mod Run
 pub mod Begun
 pub mod Parts
