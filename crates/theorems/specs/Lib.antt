@@ -31,3 +31,4 @@ pub mod Calls
 pub mod Quiet
 pub mod Round
 pub mod RoundLists
+pub mod Ended
