@@ -49,9 +49,9 @@ by-number G σ code a b c g1 g2 g3 g4 g5 g6 g7 g8 g9 g10 g11 g12 g13 g14 g =
     (at 12 g12
     (at 13 g13
     (at 14 g14 g)))))))))))))
-    where
-  at : (n : ℕ) {x y : Rule} → G n x → G code y → G code (cond (eqb code n) x y)
-  at n p q = by-eq code n (λ e c. rw (c, e) p) (λ e c. rw c q)
+  where
+    at : (n : ℕ) {x y : Rule} → G n x → G code y → G code (cond (eqb code n) x y)
+    at n p q = by-eq code n (λ e c. rw (c, e) p) (λ e c. rw c q)
 
 -- session s is running, and what it has written to key k is v
 abbrev pub Written : Store → ℕ → ℕ → ℕ → Type 0
@@ -252,3 +252,149 @@ shows-last-write {σ} {τ} {υ} r s k v e m f l =
       version = rw (value, from);
       shown = λ s′ g S. S .shown ∙ rw value;
     }
+
+-- in σ session s wrote v to key k, and up to τ it has neither written that key again nor ended
+abbrev pub LastWrite : Store → Store → ℕ → ℕ → ℕ → Type 0
+LastWrite σ τ s k v = record {
+  reached : Reached σ;
+  taken : refusal σ 4 s k v ≡ 0;
+  since : Meanwhile s k (after σ 4 s k v) τ;
+}
+
+by-other : {G : Type 0} (s k code a b : ℕ) → (code ≡ 4 → a ≡ s → b ≡ k → G) → (code ≡ 5 → a ≡ s → G) → (Other s k code a b → G) → G
+by-other s k code a b w e o =
+    by-test (eqb code 4 && (eqb a s && eqb b k))
+    (λ c. let x = and-true (eqb code 4) _ c in
+    let y = and-true (eqb a s) _ (x .1) in
+    w (eqb-true _ _ (x .0)) (eqb-true _ _ (y .0)) (eqb-true _ _ (y .1)))
+    (λ c. by-test (eqb code 5 && eqb a s)
+    (λ d. let x = and-true (eqb code 5) _ d in e (eqb-true _ _ (x .0)) (eqb-true _ _ (x .1)))
+    (λ d. o (
+      λ x y z. true≢false (rw (x, y, z, eqb-refl s, eqb-refl k) at c),
+      λ x y. true≢false (rw (x, y, eqb-refl s) at d),
+    )))
+
+-- an end that is taken has no number but the session's, and the session does not run on
+end-stops : (σ : Store) (s b c : ℕ) → refusal σ 5 s b c ≡ 0 → (b ≡ 0) × (c ≡ 0) × (after σ 5 s b c (Status s) ≡ running → ⊥)
+unfolding refusal after ruleOf
+end-stops σ s b c e =
+    let x = asked-for (sessionThere σ s && (unused b && unused c)) 3 _ (omega arith) e in
+    let y = and-true (unused b) _ (and-true (sessionThere σ s) _ (x .0) .1) in (
+      eqb-true b 0 (y .0),
+      eqb-true c 0 (y .1),
+      by-test (hasWrites σ s)
+          (λ w z. let z′ : _≡_ {A = ℕ} committing running = rw (eq-eqb _ _ e, w, eqb-refl s) at z in omega arith)
+          (λ w z. let z′ : _≡_ {A = ℕ} idle running = rw (eq-eqb _ _ e, w, eqb-refl s) at z in omega arith),
+    )
+
+-- one step more
+onward : (ρ σ : Store) (s k code a b c : ℕ) → (refusal σ code a b c ≡ 0 → Other s k code a b)
+    → after σ code a b c (WriteValue s k) ≡ σ (WriteValue s k)
+    → LastWrite ρ σ s k (σ (WriteValue s k)) → LastWrite ρ (after σ code a b c) s k (after σ code a b c (WriteValue s k))
+onward ρ σ s k code a b c o q L = rw q (record { reached = L .reached; taken = L .taken; since = Meanwhile.more (L .since) code a b c o })
+
+-- What a running session has in its write set, it wrote.
+pub has-write : {τ : Store} → Reached τ → (s k : ℕ) → τ (Status s) ≡ running → member (τ (WriteSet s)) k ≡ true
+    → (σ : Store) × LastWrite σ τ s k (τ (WriteValue s k))
+has-write (Reached.begun masks homes e) s k runs has = absurd (omega arith)
+has-write (Reached.onward {σ} r code a b c) s k runs has =
+    by-eq (refusal σ code a b c) 0
+    (λ q _. by-other s k code a b
+    (λ x y z.
+    let q′ : refusal σ 4 s k c ≡ 0 = rw (x, y, z) at q in
+    rw (x, y, z, write-left σ s k c q′ .value) (σ, record { reached = r; taken = q′; since = Meanwhile.none }))
+    (λ x y. absurd (end-stops σ s b c (rw (x, y) at q) .2 (rw (x, y) at runs)))
+    (λ o. ⊎-elim
+    (λ x. let w = has-write r s k (sym (x .0) ∙ runs) (sym (x .1) ∙ has) in
+    (w .0, onward (w .0) σ s k code a b c (λ _. o) (x .2) (w .1)))
+    (λ x. absurd (x .1 runs has))
+    (spared σ r s k code a b c q o)))
+    (λ q _.
+    let e = refused-unchanged σ code a b c q .0 in
+    let w = has-write r s k (rw e at runs) (rw e at has) in
+    (w .0, onward (w .0) σ s k code a b c (λ z. absurd (q z)) (rw e) (w .1)))
+
+-- what transaction t of υ has for key k its session wrote last, in σ, before it ended, in τ
+abbrev pub WrittenBy : Store → Store → Store → ℕ → ℕ → Type 0
+WrittenBy σ τ υ t k = record {
+  last : LastWrite σ τ (υ (By t)) k (υ (Value t k));
+  ends : refusal τ 5 (υ (By t)) 0 0 ≡ 0;
+  place : τ Transactions ≡ t;
+  since : Later (after τ 5 (υ (By t)) 0 0) υ;
+}
+
+-- only an end with writes makes a transaction
+module _ (σ : Store) where
+  abbrev Makes : ℕ → ℕ → Rule → Type 0
+  Makes a n x = x .refusal ≡ 0 → (x .after Transactions ≡ σ Transactions) ⊎ ((n ≡ 5) × (hasWrites σ a ≡ true))
+
+  makes : (code a b c : ℕ) → refusal σ code a b c ≡ 0
+      → (after σ code a b c Transactions ≡ σ Transactions) ⊎ ((code ≡ 5) × (hasWrites σ a ≡ true))
+  unfolding refusal after
+  makes code a b c e =
+      rw (eq-eqb _ _ e)
+      (by-number (Makes a) σ code a b c
+      (λ _. inl refl) (λ _. inl refl) (λ _. inl refl) (λ _. inl refl)
+      (λ _. by-test (hasWrites σ a) (λ w. inr (refl, w)) (λ w. inl (rw w)))
+      (λ _. inl refl) (λ _. inl refl) (λ _. inl refl) (λ _. inl refl) (λ _. inl refl)
+      (λ _. inl refl) (λ _. inl refl) (λ _. inl refl) (λ _. inl refl) (λ _. inl refl)
+      e)
+
+end-ran : (σ : Store) (s : ℕ) → refusal σ 5 s 0 0 ≡ 0 → σ (Status s) ≡ running
+unfolding refusal ruleOf
+end-ran σ s e =
+    let a = asked-for (sessionThere σ s && (unused 0 && unused 0)) 3 _ (omega arith) e in
+    eqb-true _ _ (asked-for (eqb (σ (Status s)) running) 7 _ (omega arith) (a .1) .0)
+
+-- the transaction that an end makes
+made : {σ : Store} → Reached σ → (s k : ℕ) → refusal σ 5 s 0 0 ≡ 0 → hasWrites σ s ≡ true
+    → member (after σ 5 s 0 0 (KeySet (σ Transactions))) k ≡ true
+    → (ρ : Store) × (τ : Store) × WrittenBy ρ τ (after σ 5 s 0 0) (σ Transactions) k
+made {σ} r s k e w m =
+    let E = ended σ s e w .1 in
+    let x = has-write r s k (end-ran σ s e) (rw (E .wrote) at m) in
+    let v = E .values k (written-key (x .0) s k (σ (WriteValue s k)) (x .1 .taken)) in
+    (x .0, σ, rw (E .by, v) (record { last = x .1; ends = e; place = refl; since = Later.none }))
+
+-- Each value of each transaction is what its session wrote last to that key before it ended.
+pub written-by : {υ : Store} → Reached υ → (t k : ℕ) → t < υ Transactions → member (υ (KeySet t)) k ≡ true
+    → (σ : Store) × (τ : Store) × WrittenBy σ τ υ t k
+written-by (Reached.begun masks homes e) t k l m = absurd (omega arith)
+written-by (Reached.onward {σ} r code a b c) t k l m =
+    let old : t < σ Transactions → (ρ : Store) × (τ : Store) × WrittenBy ρ τ (after σ code a b c) t k = λ b′.
+    (let K = transaction-kept {σ = σ} (Later.more Later.none code a b c) t b′ in
+    let w = written-by r t k b′ (rw (K .keys) at m) in (
+      w .0,
+      w .1,
+      rw (K .by, K .values k) (record {
+        last = w .2 .last;
+        ends = w .2 .ends;
+        place = w .2 .place;
+        since = Later.more (w .2 .since) code a b c;
+      }),
+    )) in
+    by-test (ltb t (σ Transactions))
+    (λ d. old (ltb-true _ _ d))
+    (λ d. let g = ltb-false t (σ Transactions) d in
+    by-eq (refusal σ code a b c) 0
+    (λ q _. ⊎-elim
+    (λ x. absurd (let l′ : t < σ Transactions = rw x at l in omega arith))
+    (λ x.
+    let q5 : refusal σ 5 a b c ≡ 0 = rw (x .0) at q in
+    let z = end-stops σ a b c q5 in
+    let q0 : refusal σ 5 a 0 0 ≡ 0 = rw (z .0, z .1) at q5 in
+    let l0 : t < after σ 5 a 0 0 Transactions = rw (x .0, z .0, z .1) at l in
+    let m0 : member (after σ 5 a 0 0 (KeySet t)) k ≡ true = rw (x .0, z .0, z .1) at m in
+    let n = ended σ a q0 (x .1) .1 .next in
+    let p : t ≡ σ Transactions = omega arith in
+    rw (x .0, z .0, z .1, p) (made r a k q0 (x .1) (rw p at m0)))
+    (makes σ code a b c q))
+    (λ q _. old (rw (refused-unchanged σ code a b c q .0) at l)))
+
+-- What a read finds, of a key that its session has not written since its start, is a transaction's, and so what that one's session wrote last to the
+-- key before it ended.
+pub read-written : {υ : Store} → Reached υ → (s k h : ℕ) → Looks υ s k h → numbers (answer υ 3 s k h) .first ≡ 1
+    → (t : ℕ) × Shows υ s k h t × ((σ : Store) × (τ : Store) × WrittenBy σ τ υ t k)
+read-written r s k h L one =
+    let x = read-shows r s k h L one in
+    (x .0, x .1, written-by r (x .0) k (x .1 .there) (x .1 .wrote))
