@@ -32,3 +32,4 @@ pub mod Quiet
 pub mod Round
 pub mod RoundLists
 pub mod Ended
+pub mod Readers
