@@ -10,13 +10,13 @@ use lib.Dec.{eqb, ltb, leb}
 use lib.ListN.{length, length-append}
 use borrow.Author.Tests.{eqb-true, eqb-false, ltb-true, eq-eqb, ne-eqb, lt-ltb, le-ltb, le-leb, lt-leb}
 use Rattle.book.specs.Sizes.{hallsMax, partitionsMax, keys, placesMax, slots, valueMax}
-use Rattle.book.specs.Cells.{Store, Partitions, Sessions, Transactions, Status, idle, running, committing, By, CommitTime, KeySet, State, asked, prepared, waiting, Proposed}
-use Rattle.book.specs.Cases.{by-test, by-eq, by-cell, and-true, eqb-refl, at-same}
+use Rattle.book.specs.Cells.{Store, same, Partitions, Sessions, Transactions, Status, idle, running, committing, By, CommitTime, KeySet, State, asked, prepared, waiting, Proposed}
+use Rattle.book.specs.Cases.{by-test, by-eq, by-cell, and-true, unwritten, eqb-refl, at-same}
 use Rattle.book.specs.Folds.{any, all-i, any-true, any-i, largest-ge}
 use Rattle.book.specs.Servers.{holds, partitionOf, placeOf, numberOf}
 use Rattle.book.specs.Sets.{member}
 use Rattle.book.specs.SessionSteps.{hasWrites, touches, ask}
-use Rattle.book.specs.CommitSteps.{decision, decide}
+use Rattle.book.specs.CommitSteps.{prepare, decision, decide}
 use Rattle.book.specs.Refusals.{transactionThere, allPrepared}
 use Rattle.book.specs.Steps.{ruleOf, refusal, after, startRule, readRule, writeRule, endRule, prepareRule, decideRule, commitRule}
 use Rattle.book.specs.Reached.{Reached}
@@ -106,34 +106,43 @@ module _ {σ : Store} (r : Reached σ) where
       let x = read-taken σ s there runs k (w .0) kb (w .1) in
       (w .0, x .0, x .1)
 
-  -- An asked pair can be prepared.
-  pub prepare-taken : (t p : ℕ) → σ (State t p) ≡ asked
-      → (refusal σ 6 (numberOf t) p 0 ≡ 0) × (after σ 6 (numberOf t) p 0 (State t p) ≡ prepared)
+  prepares : (t p : ℕ) → σ (State t p) ≡ asked → (refusal σ 6 (numberOf t) p 0 ≡ 0) × (after σ 6 (numberOf t) p 0 ≡ prepare σ t p)
   unfolding ruleOf
-  prepare-taken t p e =
+  prepares t p e =
       let l = pair-there r t p (omega arith) in
       let w = by-rule σ (call 6 (numberOf t) p 0) (prepareRule σ (numberOf t) p 0) refl
       (rw (number-there σ t (l .0), place-of t, lt-ltb p (σ Partitions) (l .1), e)) in
-      (w .0, rw (w .1, place-of t, at-same (State t p)))
+      (w .0, w .1 ∙ rw (place-of t))
 
-  -- A transaction that is undecided, and prepared in each partition that it writes, can be decided. It has a commit time then, and its session is idle.
-  pub decide-taken : (t : ℕ) → t < σ Transactions → σ (CommitTime t) ≡ 0
-      → ((p : ℕ) → touches σ (σ (KeySet t)) p ≡ true → σ (State t p) ≡ prepared)
-      → (refusal σ 7 (numberOf t) 0 0 ≡ 0)
-      × (0 < after σ 7 (numberOf t) 0 0 (CommitTime t))
-      × (after σ 7 (numberOf t) 0 0 (Status (σ (By t))) ≡ idle)
-  unfolding ruleOf
-  decide-taken t l un done =
-      let F = formed σ (reached-well-formed r) in
-      let x = reached-own r .some t l in
-      let e = done (x .0) (pair-there r t (x .0) (x .2) .2) in
-      let y = F .prepared t (x .0) (le-trans l (F .places)) (x .1) e in
-      let z = largest-ge partitionsMax (λ p. eqb (σ (State t p)) prepared) (λ p. σ (Proposed t p)) (x .0) (x .1) (eq-eqb (σ (State t (x .0))) prepared e) in
-      let all : allPrepared σ t ≡ true = all-i partitionsMax _ (λ p _. by-eq (σ (State t p)) 0
-      (λ q c. rw c)
-      (λ q c. rw (c, done p (pair-there r t p (omega arith) .2)))) in
-      let w = by-rule σ (call 7 (numberOf t) 0 0) (decideRule σ (numberOf t) 0 0) refl (rw (number-there σ t l, place-of t, all, un)) in
-      (w .0, rw (w .1, place-of t, eqb-refl t) (omega arith), rw (w .1, place-of t, eqb-refl (σ (By t))))
+  -- An asked pair can be prepared.
+  pub prepare-taken : (t p : ℕ) → σ (State t p) ≡ asked
+      → (refusal σ 6 (numberOf t) p 0 ≡ 0) × (after σ 6 (numberOf t) p 0 (State t p) ≡ prepared)
+  prepare-taken t p e = let w = prepares t p e in (w .0, rw (w .1, at-same (State t p)))
+
+  -- a transaction that is undecided, and prepared in each partition that it writes
+  module _ (t : ℕ) (there : t < σ Transactions) (un : σ (CommitTime t) ≡ 0)
+      (done : (p : ℕ) → touches σ (σ (KeySet t)) p ≡ true → σ (State t p) ≡ prepared) where
+    decides : (refusal σ 7 (numberOf t) 0 0 ≡ 0) × (after σ 7 (numberOf t) 0 0 ≡ decide σ t)
+    unfolding ruleOf
+    decides =
+        let all : allPrepared σ t ≡ true = all-i partitionsMax _ (λ p _. by-eq (σ (State t p)) 0
+        (λ q c. rw c)
+        (λ q c. rw (c, done p (pair-there r t p (omega arith) .2)))) in
+        let w = by-rule σ (call 7 (numberOf t) 0 0) (decideRule σ (numberOf t) 0 0) refl (rw (number-there σ t there, place-of t, all, un)) in
+        (w .0, w .1 ∙ rw (place-of t))
+
+    -- It can be decided. It has a commit time then, and its session is idle.
+    pub decide-taken : (refusal σ 7 (numberOf t) 0 0 ≡ 0)
+        × (0 < after σ 7 (numberOf t) 0 0 (CommitTime t))
+        × (after σ 7 (numberOf t) 0 0 (Status (σ (By t))) ≡ idle)
+    decide-taken =
+        let F = formed σ (reached-well-formed r) in
+        let x = reached-own r .some t there in
+        let e = done (x .0) (pair-there r t (x .0) (x .2) .2) in
+        let y = F .prepared t (x .0) (le-trans there (F .places)) (x .1) e in
+        let z = largest-ge partitionsMax (λ p. eqb (σ (State t p)) prepared) (λ p. σ (Proposed t p)) (x .0) (x .1) (eq-eqb (σ (State t (x .0))) prepared e) in
+        let w = decides in
+        (w .0, rw (w .1, eqb-refl t) (omega arith), rw (w .1, eqb-refl (σ (By t))))
 
   -- A decided pair that is still prepared can be committed.
   pub commit-taken : (t p : ℕ) → σ (State t p) ≡ prepared → 0 < σ (CommitTime t)
@@ -144,3 +153,66 @@ module _ {σ : Store} (r : Reached σ) where
       let w = by-rule σ (call 8 (numberOf t) p 0) (commitRule σ (numberOf t) p 0) refl
       (rw (number-there σ t (l .0), place-of t, lt-ltb p (σ Partitions) (l .1), lt-ltb 0 (σ (CommitTime t)) d, e)) in
       (w .0, rw (w .1, place-of t, at-same (State t p)))
+
+-- session s waits for its transaction t to be decided
+abbrev pub Awaits : Store → ℕ → ℕ → Type 0
+Awaits σ s t = record {
+  there : t < σ Transactions;
+  by : σ (By t) ≡ s;
+  undecided : σ (CommitTime t) ≡ 0;
+}
+
+abbrev Waits : Store → Type 0
+Waits σ = (s : ℕ) → σ (Status s) ≡ committing → (t : ℕ) × Awaits σ s t
+
+module _ (σ : Store) (I : Inv σ) (W : Waits σ) where
+  ask-waits : (s₀ : ℕ) → Waits (ask σ s₀)
+  ask-waits s₀ s st =
+      by-eq s₀ s
+      (λ q c. (
+        σ Transactions,
+        record {
+          there = omega arith;
+          by = rw (eqb-refl (σ Transactions)) q;
+          undecided = I .states .undecided (σ Transactions) (le-refl _);
+        },
+      ))
+      (λ q c.
+      let w = W s (rw c at st) in
+      let l = w .1 .there in
+      let n = ne-eqb (σ Transactions) (w .0) (λ e. omega arith) in
+      (w .0, record { there = omega arith; by = rw n (w .1 .by); undecided = w .1 .undecided }))
+
+  decide-waits : (t₀ : ℕ) → Waits (decide σ t₀)
+  decide-waits t₀ s st =
+      by-eq (σ (By t₀)) s
+      (λ q c. let z = rw c at st in absurd (omega arith))
+      (λ q c.
+      let w = W s (rw c at st) in
+      by-cell (CommitTime t₀) (CommitTime (w .0))
+      (λ e d. absurd (q (rw (e .i) (w .1 .by))))
+      (λ d. (w .0, record { there = w .1 .there; by = w .1 .by; undecided = rw d (w .1 .undecided) })))
+
+  step-waits : (x : Step σ) → Waits (next σ x)
+  step-waits (Step.ticks h p x a b c) = W
+  step-waits (Step.starts s₀ a b) = λ s st. W s (unwritten (same (Status s₀) (Status s)) running (σ (Status s)) committing (λ x. omega arith) st .1)
+  step-waits (Step.reads s k h a b c d) = W
+  step-waits (Step.writes s k v a b c d) = W
+  step-waits (Step.asks s₀ a b c d) = ask-waits s₀
+  step-waits (Step.rests s₀ a b c) = λ s st. W s (unwritten (same (Status s₀) (Status s)) idle (σ (Status s)) committing (λ x. omega arith) st .1)
+  step-waits (Step.prepares t p a b c) = W
+  step-waits (Step.decides t a b c) = decide-waits t
+  step-waits (Step.commits t p a b c d) = W
+  step-waits (Step.installs h p a b) = W
+  step-waits (Step.delivers p f g a b c d) = W
+  step-waits (Step.reports h p a) = W
+  step-waits (Step.shares f to a b) = W
+  step-waits (Step.learns h p a) = W
+  step-waits (Step.moves s h p a b c) = W
+
+-- A committing session waits for a transaction of its own that is undecided, and for no other.
+pub awaits : {σ : Store} → Reached σ → (s : ℕ) → σ (Status s) ≡ committing → (t : ℕ) × Awaits σ s t × ((u : ℕ) → Awaits σ s u → u ≡ t)
+awaits {σ} r s st =
+    let w = by-reached Waits (λ masks homes e s st. absurd (omega arith)) (λ σ r W x. step-waits σ (reached-inv r) W x) r s st in
+    let A = w .1 in
+    (w .0, A, λ u B. reached-own r .one u (w .0) (B .there) (A .there) (B .by ∙ sym (A .by)) (B .undecided) (A .undecided))
