@@ -8,14 +8,14 @@ use native.Mathlib.Nat.{le-trans, le-refl, mod-lt}
 use native.Mathlib.Omega.{arith}
 use lib.Dec.{eqb, ltb, leb}
 use lib.ListN.{length, length-append}
-use borrow.Author.Tests.{eqb-true, eqb-false, ltb-true, eq-eqb, ne-eqb, lt-ltb, le-ltb, le-leb, lt-leb}
+use borrow.Author.Tests.{eqb-true, eqb-false, ltb-true, ltb-false, leb-true, leb-false, eq-eqb, ne-eqb, lt-ltb, le-ltb, le-leb, lt-leb}
 use Rattle.book.specs.Sizes.{hallsMax, partitionsMax, keys, placesMax, slots, valueMax}
 use Rattle.book.specs.Cells.{Store, same, Partitions, Sessions, Transactions, Status, idle, running, committing, By, CommitTime, KeySet, State, asked, prepared, waiting, Proposed}
 use Rattle.book.specs.Cases.{by-test, by-eq, by-cell, and-true, unwritten, eqb-refl, at-same}
-use Rattle.book.specs.Folds.{any, all-i, any-true, any-i, largest-ge}
+use Rattle.book.specs.Folds.{any, all-i, any-true, any-false, largest-ge}
 use Rattle.book.specs.Servers.{holds, partitionOf, placeOf, numberOf}
 use Rattle.book.specs.Sets.{member}
-use Rattle.book.specs.SessionSteps.{hasWrites, touches, ask}
+use Rattle.book.specs.SessionSteps.{start, hasWrites, touches, ask}
 use Rattle.book.specs.CommitSteps.{prepare, decision, decide}
 use Rattle.book.specs.Refusals.{transactionThere, allPrepared}
 use Rattle.book.specs.Steps.{ruleOf, refusal, after, startRule, readRule, writeRule, endRule, prepareRule, decideRule, commitRule}
@@ -28,7 +28,7 @@ use Rattle.theorems.specs.Install.{has-asked}
 use Rattle.theorems.specs.WellFormedKept.{reached-well-formed}
 use Rattle.theorems.specs.Reach.{reached-inv}
 use Rattle.theorems.specs.OwnWrites.{reached-own}
-use Rattle.theorems.specs.Calls.{Call, call, run, AllTaken, by-rule, run-append, taken-append}
+use Rattle.theorems.specs.Calls.{Call, call, refusalOf, afterOf, run, AllTaken, by-rule, run-append, taken-append}
 
 -- a session that is there
 module _ (σ : Store) (s : ℕ) (there : s < σ Sessions) where
@@ -75,6 +75,10 @@ module _ (σ : Store) (s : ℕ) (there : s < σ Sessions) where
     pub end-full : hasWrites σ s ≡ true → placesMax ≤ σ Transactions → (refusal σ 5 s 0 0 ≡ 8) × (after σ 5 s 0 0 (Status s) ≡ running)
     unfolding refusal after ruleOf
     end-full y l = rw (lt-ltb s (σ Sessions) there, runs, y, le-leb placesMax (σ Transactions) l) (refl, runs)
+
+started : (σ : Store) (s : ℕ) → refusal σ 2 s 0 0 ≡ 0 → after σ 2 s 0 0 ≡ start σ s
+unfolding refusal after ruleOf
+started σ s e = rw (eq-eqb _ _ e)
 
 -- a set of keys of partition p has p among the partitions
 touched-there : (σ : Store) → 0 < σ Partitions → (m p : ℕ) → touches σ m p ≡ true → p < σ Partitions
@@ -216,3 +220,166 @@ awaits {σ} r s st =
     let w = by-reached Waits (λ masks homes e s st. absurd (omega arith)) (λ σ r W x. step-waits σ (reached-inv r) W x) r s st in
     let A = w .1 in
     (w .0, A, λ u B. reached-own r .one u (w .0) (B .there) (A .there) (B .by ∙ sym (A .by)) (B .undecided) (A .undecided))
+
+-- nothing of an undecided transaction is past prepared
+ready : {σ : Store} → Reached σ → (s t : ℕ) → Awaits σ s t → ((p : ℕ) → p < partitionsMax → σ (State t p) ≡ asked → ⊥)
+    → (p : ℕ) → touches σ (σ (KeySet t)) p ≡ true → σ (State t p) ≡ prepared
+ready {σ} r s t A none p e =
+    let I = reached-inv r in
+    let some : 0 < σ (State t p) = ltb-true 0 (σ (State t p)) (reached-stated r t p ∙ rw (lt-ltb t (σ Transactions) (A .there), e)) in
+    let small = le-trans (pair-there r t p some .1) (I .setup .partitions) in
+    by-test (leb waiting (σ (State t p)))
+    (λ c. let z = I .states .late t p (leb-true waiting (σ (State t p)) c) in let y = A .undecided in absurd (omega arith))
+    (λ c. let z = leb-false waiting (σ (State t p)) c in
+    by-eq (σ (State t p)) asked (λ q _. absurd (none p small q)) (λ q _. omega arith))
+
+-- the ways on of a session
+abbrev pub CanGoOn : Store → ℕ → Type 0
+CanGoOn σ s =
+    -- it can start
+    ((σ (Status s) ≡ idle) × (refusal σ 2 s 0 0 ≡ 0))
+    -- it can end, or has writes for which there is no room
+    ⊎ (((σ (Status s) ≡ running) × ((refusal σ 5 s 0 0 ≡ 0) ⊎ ((hasWrites σ s ≡ true) × (placesMax ≤ σ Transactions))))
+    -- its transaction can be prepared in some partition, or can be decided
+    ⊎ ((σ (Status s) ≡ committing)
+    × ((t : ℕ) × Awaits σ s t × (((p : ℕ) × (refusal σ 6 (numberOf t) p 0 ≡ 0)) ⊎ (refusal σ 7 (numberOf t) 0 0 ≡ 0)))))
+
+-- Each session of a reached store can go on.
+pub never-stuck : {σ : Store} → Reached σ → (s : ℕ) → s < σ Sessions → CanGoOn σ s
+never-stuck {σ} r s there =
+    let F = formed σ (reached-well-formed r) in
+    let l = F .status s (le-trans there (reached-inv r .setup .sessions)) in
+    by-eq (σ (Status s)) idle
+    (λ q _. inl (q, start-taken σ s there q .0))
+    (λ n _. by-eq (σ (Status s)) running
+    (λ q _. inr (inl (
+      q,
+      by-test (hasWrites σ s)
+          (λ w. by-test (ltb (σ Transactions) placesMax)
+          (λ c. inl (end-with σ s there q w (ltb-true _ _ c) .0))
+          (λ c. inr (w, ltb-false _ _ c)))
+          (λ w. inl (end-without σ s there q w .0)),
+    )))
+    (λ m _.
+    let q : σ (Status s) ≡ committing = omega arith in
+    let x = awaits r s q in
+    let t = x .0 in
+    inr (inr (
+      q,
+      (
+        t,
+        x .1,
+        by-test (any partitionsMax (λ p. eqb (σ (State t p)) asked))
+            (λ c. let w = any-true partitionsMax (λ p. eqb (σ (State t p)) asked) c in
+            inl (w .0, prepare-taken r t (w .0) (eqb-true _ _ (w .2)) .0))
+            (λ c. inr (decide-taken r t (x .1 .there) (x .1 .undecided)
+            (ready r s t (x .1) (λ p b e. eqb-false (σ (State t p)) asked (any-false partitionsMax (λ p. eqb (σ (State t p)) asked) p b c) e)) .0)),
+      ),
+    ))))
+
+-- some steps in a row, each of them taken, and what is then so of the store
+abbrev pub Leads : Store → ℕ → (Store → Type 0) → Type 0
+Leads σ n P = (l : List Call) × (length l ≤ n) × AllTaken σ l × P (run σ l)
+
+-- one more
+leads-on : (σ : Store) (n : ℕ) (P Q : Store → Type 0) (x : Call) → Leads σ n P
+    → ((τ : Store) → P τ → (refusalOf τ x ≡ 0) × Q (afterOf τ x)) → Leads σ (suc n) Q
+unfolding run AllTaken
+leads-on σ n P Q x L f =
+    let l = L .0 in
+    let w = f (run σ l) (L .3) in
+    let short = L .1 in (
+      l ++ (x ∷ []),
+      rw (length-append l (x ∷ [])) (omega arith),
+      taken-append l (x ∷ []) σ (L .2) (w .0, tt),
+      rw (run-append l (x ∷ []) σ) (w .1),
+    )
+
+-- session s is there and waits for t, of which no partition below n is still to be prepared
+abbrev Nearer : ℕ → ℕ → ℕ → Store → Type 0
+Nearer s t n σ = record {
+  reached : Reached σ;
+  there : s < σ Sessions;
+  awaits : Awaits σ s t;
+  none : (p : ℕ) → p < n → σ (State t p) ≡ asked → ⊥;
+}
+
+nearer : {σ : Store} → Reached σ → (s t : ℕ) → s < σ Sessions → Awaits σ s t → (n : ℕ) → Leads σ n (Nearer s t n)
+unfolding run AllTaken
+nearer r s t there A zero = ([], omega arith, tt, record { reached = r; there = there; awaits = A; none = λ p b e. omega arith })
+nearer {σ} r s t there A (suc n) =
+    let L = nearer r s t there A n in
+    let τ = run σ (L .0) in
+    let short = L .1 in
+    by-eq (τ (State t n)) asked
+    (λ q _. leads-on σ n (λ υ. Nearer s t n υ × (υ (State t n) ≡ asked)) (Nearer s t (suc n)) (call 6 (numberOf t) n 0)
+    (L .0, L .1, L .2, (L .3, q))
+    (λ υ N. let w = prepares (N .0 .reached) t n (N .1) in (
+      w .0,
+      record {
+        reached = Reached.onward (N .0 .reached) 6 (numberOf t) n 0;
+        there = rw (w .1) (N .0 .there);
+        awaits = rw (w .1) (N .0 .awaits);
+        none = λ p b e. by-eq n p
+            (λ _ c. let z : _≡_ {A = ℕ} prepared asked = rw (w .1, eqb-refl t, c) at e in omega arith)
+            (λ m c. N .0 .none p (omega arith) (rw (w .1, eqb-refl t, c) at e));
+      },
+    )))
+    (λ q _. (
+      L .0,
+      omega arith,
+      L .2,
+      record {
+        reached = L .3 .reached;
+        there = L .3 .there;
+        awaits = L .3 .awaits;
+        none = λ p b e. by-eq n p (λ m _. q (rw (← m) at e)) (λ m _. L .3 .none p (omega arith) e);
+      },
+    ))
+
+abbrev Rests : ℕ → Store → Type 0
+Rests s σ = record { reached : Reached σ; there : s < σ Sessions; is : σ (Status s) ≡ idle }
+
+back : {σ : Store} → Reached σ → (s : ℕ) → σ (Status s) ≡ committing → Leads σ (suc partitionsMax) (Rests s)
+back {σ} r s st =
+    let F = formed σ (reached-well-formed r) in
+    let x = awaits r s st in
+    let t = x .0 in
+    let A = x .1 in
+    let there : s < σ Sessions = rw (← A .by) (F .session t (le-trans (A .there) (F .places))) in
+    leads-on σ partitionsMax (Nearer s t partitionsMax) (Rests s) (call 7 (numberOf t) 0 0) (nearer r s t there A partitionsMax)
+    (λ τ N.
+    let B = N .awaits in
+    let w = decides (N .reached) t (B .there) (B .undecided) (ready (N .reached) s t B (N .none)) in (
+      w .0,
+      record {
+        reached = Reached.onward (N .reached) 7 (numberOf t) 0 0;
+        there = rw (w .1) (N .there);
+        is = rw (w .1, B .by, eqb-refl s);
+      },
+    ))
+
+-- A committing session comes back: at most a prepare for each partition, and the decide.
+pub comes-back : {σ : Store} → Reached σ → (s : ℕ) → σ (Status s) ≡ committing → Leads σ 5 (λ τ. τ (Status s) ≡ idle)
+comes-back r s st = let L = back r s st in (L .0, L .1, L .2, L .3 .is)
+
+-- Each session of each reached store comes, by at most six steps, to run and to have a read of key k taken.
+pub readers-exist : {σ : Store} → Reached σ → (s k : ℕ) → s < σ Sessions → k < keys
+    → Leads σ 6 (λ τ. (τ (Status s) ≡ running) × ((h : ℕ) × (refusal τ 3 s k h ≡ 0)))
+unfolding run AllTaken
+readers-exist {σ} r s k there kb =
+    let F = formed σ (reached-well-formed r) in
+    let l = F .status s (le-trans there (reached-inv r .setup .sessions)) in
+    let reads : (τ : Store) → Reached τ → s < τ Sessions → τ (Status s) ≡ running → (τ (Status s) ≡ running) × ((h : ℕ) × (refusal τ 3 s k h ≡ 0)) =
+    λ τ r′ b q. let w = read-somewhere r′ s k b q kb in (q, (w .0, w .1)) in
+    let starts : (τ : Store) → Rests s τ
+    → (refusal τ 2 s 0 0 ≡ 0) × ((after τ 2 s 0 0 (Status s) ≡ running) × ((h : ℕ) × (refusal (after τ 2 s 0 0) 3 s k h ≡ 0))) =
+    λ τ R. let w = start-taken τ s (R .there) (R .is) in
+    (w .0, reads (after τ 2 s 0 0) (Reached.onward (R .reached) 2 s 0 0) (rw (started τ s (w .0)) (R .there)) (w .1)) in
+    by-eq (σ (Status s)) running
+    (λ q _. ([], omega arith, tt, reads σ r there q))
+    (λ n _. by-eq (σ (Status s)) idle
+    (λ q _. let w = starts σ (record { reached = r; there = there; is = q }) in
+    (call 2 s 0 0 ∷ [], omega arith, (w .0, tt), w .1))
+    (λ m _. leads-on σ 5 (Rests s) (λ τ. (τ (Status s) ≡ running) × ((h : ℕ) × (refusal τ 3 s k h ≡ 0))) (call 2 s 0 0)
+    (back r s (omega arith)) starts))
