@@ -1,19 +1,18 @@
 -- What a transaction is at its end: what its session wrote, under its coordinator's hall and the next number.
 use Prim.Native.Nat.{ℕ, suc, _<_}
-use mathlib.Core.Bool.{Bool, true, false, cond, _&&_, not, false≢true, true≢false}
-use mathlib.Core.Path.{_≡_, refl, ap, sym, _∙_}
+use mathlib.Core.Bool.{true, false, cond, _&&_, not, false≢true, true≢false}
+use mathlib.Core.Path.{_≡_, refl, sym, _∙_}
 use mathlib.Core.Logic.{_⊎_, inl, inr, ⊎-elim}
 use native.Mathlib.Nat.{le-refl}
 use native.Mathlib.Omega.{arith}
 use lib.Dec.{eqb, ltb, leb}
 use borrow.Author.Tests.{eqb-true, ltb-true, ltb-false, leb-true, eq-eqb, lt-ltb, not-true}
-use Rattle.book.specs.declared.Answer.the-variants.{Answered}
 use Rattle.book.specs.declared.View.the-variants.{Seen}
-use Rattle.book.specs.Sizes.{partitionsMax, keys, placesMax, valueMax}
-use Rattle.book.specs.Cells.{Store, Sessions, Transactions, HomeHall, Status, idle, running, committing, WriteSet, WriteValue, By, From, CommitTime, KeySet, Value, State, asked}
+use Rattle.book.specs.Sizes.{partitionsMax, keys, valueMax}
+use Rattle.book.specs.Cells.{Store, Transactions, HomeHall, Status, idle, running, committing, WriteSet, WriteValue, By, From, CommitTime, KeySet, Value, State, asked}
 use Rattle.book.specs.Cases.{by-test, by-eq, and-true, eqb-refl, passed}
 use Rattle.book.specs.Folds.{count}
-use Rattle.book.specs.Sets.{member, include, member-none, member-include}
+use Rattle.book.specs.Sets.{member, member-none, member-include}
 use Rattle.book.specs.Answers.{stamp, triple, numbers}
 use Rattle.book.specs.Servers.{placeOf, numberOf}
 use Rattle.book.specs.Views.{version, decided}
@@ -166,6 +165,14 @@ write-stays s k v r (Meanwhile.more {τ} m code a b c o) w =
     (spared τ (reached-later r (meanwhile-later s k m)) s k code a b c q (o q)))
     (λ q _. rw (refused-unchanged τ code a b c q .0) w′)
 
+-- so its own read of the key answers it
+pub reads-last-write : {σ τ : Store} → Reached σ → (s k v : ℕ) → refusal σ 4 s k v ≡ 0 → Meanwhile s k (after σ 4 s k v) τ
+    → (h : ℕ) → refusal τ 3 s k h ≡ 0 → numbers (answer τ 3 s k h) ≡ triple 0 1 v
+unfolding refusal answer ruleOf
+reads-last-write {σ} r s k v e m h f =
+    let W = write-stays s k v (Reached.onward r 4 s k v) m (write-left σ s k v e) in
+    rw (eq-eqb _ _ f, W .has, W .value)
+
 -- what session s ended with in σ is the transaction at the next place of τ
 abbrev pub Ended : Store → Store → ℕ → Type 0
 Ended σ τ s = record {
@@ -219,7 +226,7 @@ IsWrite υ t s h k v = record {
   by : υ (By t) ≡ s;
   from : υ (From t) ≡ h;
   wrote : member (υ (KeySet t)) k ≡ true;
-  version : version υ k t ≡ Seen v (stamp (υ (CommitTime t)) h (numberOf t));
+  seen : version υ k t ≡ Seen v (stamp (υ (CommitTime t)) h (numberOf t));
   -- who reads it, whatever session and wherever, is shown v
   shown : (s′ g : ℕ) → Shows υ s′ k g t → numbers (answer υ 3 s′ k g) ≡ triple 0 1 v;
 }
@@ -249,7 +256,7 @@ shows-last-write {σ} {τ} {υ} r s k v e m f l =
       by = K .by ∙ E .by;
       from = from;
       wrote = rw (K .keys, E .wrote) (W .has);
-      version = rw (value, from);
+      seen = rw (value, from);
       shown = λ s′ g S. S .shown ∙ rw value;
     }
 

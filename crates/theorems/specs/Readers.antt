@@ -1,31 +1,32 @@
 -- Nobody is stuck for a reason that is not in the table: what is taken, and where it leaves the session or the transaction.
-use Prim.Native.Nat.{ℕ, zero, suc, _+_, _≤_, _<_}
-use mathlib.Core.Bool.{Bool, true, false, _&&_, _||_, not, false≢true}
+use Prim.Native.Nat.{ℕ, zero, suc, _≤_, _<_}
+use mathlib.Core.Bool.{Bool, true, false, _&&_}
 use mathlib.Core.Path.{_≡_, refl, sym, _∙_}
 use mathlib.Core.List.{List, [], _∷_, _++_}
-use mathlib.Core.Logic.{_⊎_, inl, inr, ⊎-elim}
+use mathlib.Core.Logic.{_⊎_, inl, inr}
 use native.Mathlib.Nat.{le-trans, le-refl, mod-lt}
 use native.Mathlib.Omega.{arith}
 use lib.Dec.{eqb, ltb, leb}
 use lib.ListN.{length, length-append}
 use borrow.Author.Tests.{eqb-true, eqb-false, ltb-true, ltb-false, leb-true, leb-false, eq-eqb, ne-eqb, lt-ltb, le-ltb, le-leb, lt-leb}
 use Rattle.book.specs.Sizes.{hallsMax, partitionsMax, keys, placesMax, slots, valueMax}
-use Rattle.book.specs.Cells.{Store, same, Partitions, Sessions, Transactions, Status, idle, running, committing, By, CommitTime, KeySet, State, asked, prepared, waiting, Proposed}
+use Rattle.book.specs.Cells.{Store, same, Partitions, Sessions, Transactions, Status, idle, running, committing, By, CommitTime, KeySet, State, asked, prepared, waiting, Proposed, Waiting}
 use Rattle.book.specs.Cases.{by-test, by-eq, by-cell, and-true, unwritten, eqb-refl, at-same}
 use Rattle.book.specs.Folds.{any, all-i, any-true, any-false, largest-ge}
 use Rattle.book.specs.Servers.{holds, partitionOf, placeOf, numberOf}
 use Rattle.book.specs.Sets.{member}
 use Rattle.book.specs.SessionSteps.{start, hasWrites, touches, ask}
-use Rattle.book.specs.CommitSteps.{prepare, decision, decide}
+use Rattle.book.specs.CommitSteps.{prepare, decide}
+use Rattle.book.specs.ReplicationSteps.{sendsTo, outgoing}
 use Rattle.book.specs.Refusals.{transactionThere, allPrepared}
-use Rattle.book.specs.Steps.{ruleOf, refusal, after, startRule, readRule, writeRule, endRule, prepareRule, decideRule, commitRule}
+use Rattle.book.specs.Steps.{ruleOf, refusal, after, startRule, readRule, writeRule, endRule, prepareRule, decideRule, commitRule, deliverRule}
 use Rattle.book.specs.Reached.{Reached}
 use Rattle.theorems.specs.Step.{Step, next, by-reached}
 use Rattle.theorems.specs.Inv.{Inv}
 use Rattle.theorems.specs.Formed.{formed}
 use Rattle.theorems.specs.Pairs.{reached-stated}
-use Rattle.theorems.specs.Install.{has-asked}
 use Rattle.theorems.specs.WellFormedKept.{reached-well-formed}
+use Rattle.theorems.specs.Sent.{sendsTo-is, outgoing-is}
 use Rattle.theorems.specs.Reach.{reached-inv}
 use Rattle.theorems.specs.OwnWrites.{reached-own}
 use Rattle.theorems.specs.Calls.{Call, call, refusalOf, afterOf, run, AllTaken, by-rule, run-append, taken-append}
@@ -383,3 +384,55 @@ readers-exist {σ} r s k there kb =
     (call 2 s 0 0 ∷ [], omega arith, (w .0, tt), w .1))
     (λ m _. leads-on σ 5 (Rests s) (λ τ. (τ (Status s) ≡ running) × ((h : ℕ) × (refusal τ 3 s k h ≡ 0))) (call 2 s 0 0)
     (back r s (omega arith)) starts))
+
+-- a message waits from one holder to another
+abbrev Between : Store → Type 0
+Between σ = (g p f : ℕ) → 0 < σ (Waiting g p f) → (holds σ f p ≡ true) × (holds σ g p ≡ true) × (f ≡ g → ⊥)
+
+step-between : (σ : Store) → Between σ → (x : Step σ) → Between (next σ x)
+step-between σ B (Step.ticks h p x a b c) = B
+step-between σ B (Step.starts s a b) = B
+step-between σ B (Step.reads s k h a b c d) = B
+step-between σ B (Step.writes s k v a b c d) = B
+step-between σ B (Step.asks s a b c d) = B
+step-between σ B (Step.rests s a b c) = B
+step-between σ B (Step.prepares t p a b c) = B
+step-between σ B (Step.decides t a b c) = B
+step-between σ B (Step.commits t p a b c d) = B
+step-between σ B (Step.installs h p there room) = λ g q f l.
+    by-test (outgoing σ h p g q f)
+    (λ c. let o = outgoing-is σ h p g q f c in
+    let x = sendsTo-is σ h p g (o .2) in
+    rw (← o .0, ← o .1) (there, x .1, x .0))
+    (λ c. B g q f (rw c at l))
+step-between σ B (Step.delivers p f g a b c d) = λ g′ q f′ l.
+    by-cell (Waiting g p f) (Waiting g′ q f′)
+    (λ e x. rw (← e .i, ← e .j, ← e .k) (a, b, c))
+    (λ x. B g′ q f′ (rw x at l))
+step-between σ B (Step.reports h p a) = B
+step-between σ B (Step.shares f to a b) = B
+step-between σ B (Step.learns h p a) = B
+step-between σ B (Step.moves s h p a b c) = B
+
+-- Each message that waits can be delivered.
+pub deliver-taken : {σ : Store} → Reached σ → (p f g : ℕ) → 0 < σ (Waiting g p f) → refusal σ 10 p f g ≡ 0
+unfolding ruleOf
+deliver-taken {σ} r p f g l =
+    let w = by-reached Between (λ masks homes e g p f l. absurd (omega arith)) (λ σ r. step-between σ) r g p f l in
+    by-rule σ (call 10 p f g) (deliverRule σ p f g) refl
+    (rw (w .0, w .1, ne-eqb f g (w .2), ne-eqb (σ (Waiting g p f)) 0 (λ e. omega arith))) .0
+
+-- A server can install, or one of its channels is full and can be delivered from.
+pub install-or-deliver : (σ : Store) (h p : ℕ) → holds σ h p ≡ true
+    → (refusal σ 9 h p 0 ≡ 0) ⊎ ((refusal σ 9 h p 0 ≡ 10) × ((g : ℕ) × (slots ≤ σ (Waiting g p h)) × (refusal σ 10 p h g ≡ 0)))
+unfolding refusal ruleOf
+install-or-deliver σ h p e =
+    let full : ℕ → Bool = λ g. sendsTo σ h p g && leb slots (σ (Waiting g p h)) in
+    by-test (any hallsMax full)
+    (λ c. let w = any-true hallsMax full c in
+    let g = w .0 in
+    let x = and-true (sendsTo σ h p g) _ (w .2) in
+    let s = sendsTo-is σ h p g (x .0) in
+    let l = leb-true slots (σ (Waiting g p h)) (x .1) in
+    inr (rw (e, c), (g, l, rw (e, s .1, ne-eqb h g (s .0), ne-eqb (σ (Waiting g p h)) 0 (λ z. omega arith)))))
+    (λ c. inl (rw (e, c)))
