@@ -14,7 +14,7 @@ use Rattle.book.specs.Cases.{by-test, by-eq, and-true, eqb-refl, passed}
 use Rattle.book.specs.Folds.{count}
 use Rattle.book.specs.Sets.{member, member-none, member-include}
 use Rattle.book.specs.Answers.{stamp, triple, numbers}
-use Rattle.book.specs.Servers.{placeOf, numberOf}
+use Rattle.book.specs.Servers.{holds, partitionOf, placeOf, numberOf}
 use Rattle.book.specs.Views.{version, decided}
 use Rattle.book.specs.SessionSteps.{write, hasWrites, touches, end, endAnswer}
 use Rattle.book.specs.Refusals.{sessionThere, transactionThere, unused, allPrepared}
@@ -153,7 +153,7 @@ write-left σ s k v e =
       value = rw (eqb-refl s, eqb-refl k);
     })
 
--- and there it stays until the session writes that key again or ends
+-- There it stays until the session writes that key again or ends.
 pub write-stays : {σ τ : Store} (s k v : ℕ) → Reached σ → Meanwhile s k σ τ → Written σ s k v → Written τ s k v
 write-stays s k v r Meanwhile.none w = w
 write-stays s k v r (Meanwhile.more {τ} m code a b c o) w =
@@ -165,13 +165,20 @@ write-stays s k v r (Meanwhile.more {τ} m code a b c o) w =
     (spared τ (reached-later r (meanwhile-later s k m)) s k code a b c q (o q)))
     (λ q _. rw (refused-unchanged τ code a b c q .0) w′)
 
--- so its own read of the key answers it
+-- a read that is taken, of a key that is in the write set
+reads-own : (σ : Store) (s k h : ℕ) → refusal σ 3 s k h ≡ 0 → member (σ (WriteSet s)) k ≡ true
+    → (σ (Status s) ≡ running) × (numbers (answer σ 3 s k h) ≡ triple 0 1 (σ (WriteValue s k)))
+unfolding refusal answer ruleOf
+reads-own σ s k h e m =
+    let a = asked-for (sessionThere σ s && (ltb k keys && holds σ h (partitionOf σ k))) 3 _ (omega arith) e in
+    (eqb-true _ _ (asked-for (eqb (σ (Status s)) running) 7 _ (omega arith) (a .1) .0), rw (eq-eqb _ _ e, m))
+
+-- So the session's own read of the key answers it.
 pub reads-last-write : {σ τ : Store} → Reached σ → (s k v : ℕ) → refusal σ 4 s k v ≡ 0 → Meanwhile s k (after σ 4 s k v) τ
     → (h : ℕ) → refusal τ 3 s k h ≡ 0 → numbers (answer τ 3 s k h) ≡ triple 0 1 v
-unfolding refusal answer ruleOf
-reads-last-write {σ} r s k v e m h f =
+reads-last-write {σ} {τ} r s k v e m h f =
     let W = write-stays s k v (Reached.onward r 4 s k v) m (write-left σ s k v e) in
-    rw (eq-eqb _ _ f, W .has, W .value)
+    reads-own τ s k h f (W .has) .1 ∙ rw (W .value)
 
 -- what session s ended with in σ is the transaction at the next place of τ
 abbrev pub Ended : Store → Store → ℕ → Type 0
@@ -219,7 +226,7 @@ ended-fresh {σ} r s e w =
     rw (end-comes-to σ s e .0, w)
     (I .states .undecided (σ Transactions) (le-refl _), λ p c. rw (eqb-refl (σ Transactions), c) (I .states .free (σ Transactions) p (le-refl _)))
 
--- in υ, transaction t is what session s, at hall h, wrote of key k: v
+-- transaction t of υ is what session s ended with at hall h, and what it wrote to key k is v
 abbrev pub IsWrite : Store → ℕ → ℕ → ℕ → ℕ → ℕ → Type 0
 IsWrite υ t s h k v = record {
   there : t < υ Transactions;
@@ -327,6 +334,7 @@ WrittenBy σ τ υ t k = record {
   last : LastWrite σ τ (υ (By t)) k (υ (Value t k));
   ends : refusal τ 5 (υ (By t)) 0 0 ≡ 0;
   place : τ Transactions ≡ t;
+  from : υ (From t) ≡ τ (HomeHall (υ (By t)));
   since : Later (after τ 5 (υ (By t)) 0 0) υ;
 }
 
@@ -361,7 +369,7 @@ made {σ} r s k e w m =
     let E = ended σ s e w .1 in
     let x = has-write r s k (end-ran σ s e) (rw (E .wrote) at m) in
     let v = E .values k (written-key (x .0) s k (σ (WriteValue s k)) (x .1 .taken)) in
-    (x .0, σ, rw (E .by, v) (record { last = x .1; ends = e; place = refl; since = Later.none }))
+    (x .0, σ, rw (E .by, v) (record { last = x .1; ends = e; place = refl; from = E .from; since = Later.none }))
 
 -- Each value of each transaction is what its session wrote last to that key before it ended.
 pub written-by : {υ : Store} → Reached υ → (t k : ℕ) → t < υ Transactions → member (υ (KeySet t)) k ≡ true
@@ -377,6 +385,7 @@ written-by (Reached.onward {σ} r code a b c) t k l m =
         last = w .2 .last;
         ends = w .2 .ends;
         place = w .2 .place;
+        from = K .from ∙ w .2 .from;
         since = Later.more (w .2 .since) code a b c;
       }),
     )) in
@@ -398,10 +407,23 @@ written-by (Reached.onward {σ} r code a b c) t k l m =
     (makes σ code a b c q))
     (λ q _. old (rw (refused-unchanged σ code a b c q .0) at l)))
 
--- What a read finds, of a key that its session has not written since its start, is a transaction's, and so what that one's session wrote last to the
--- key before it ended.
-pub read-written : {υ : Store} → Reached υ → (s k h : ℕ) → Looks υ s k h → numbers (answer υ 3 s k h) .first ≡ 1
-    → (t : ℕ) × Shows υ s k h t × ((σ : Store) × (τ : Store) × WrittenBy σ τ υ t k)
-read-written r s k h L one =
-    let x = read-shows r s k h L one in
-    (x .0, x .1, written-by r (x .0) k (x .1 .there) (x .1 .wrote))
+-- a read that is taken, of a key that is not in it
+looks : (σ : Store) (s k h : ℕ) → refusal σ 3 s k h ≡ 0 → member (σ (WriteSet s)) k ≡ false → Looks σ s k h
+unfolding refusal ruleOf
+looks σ s k h e n =
+    let a = asked-for (sessionThere σ s && (ltb k keys && holds σ h (partitionOf σ k))) 3 _ (omega arith) e in
+    let b = asked-for (eqb (σ (Status s)) running) 7 _ (omega arith) (a .1) in
+    let c = and-true (sessionThere σ s) _ (a .0) in
+    let d = and-true (ltb k keys) _ (c .1) in
+    record { there = ltb-true _ _ (c .0); runs = eqb-true _ _ (b .0); key = ltb-true _ _ (d .0); holder = d .1; unwritten = n }
+
+-- What a read finds was written: by its session, which has not ended since; or it is a transaction's, and what that one's session wrote last to the key
+-- before it ended.
+pub read-written : {υ : Store} → Reached υ → (s k h : ℕ) → refusal υ 3 s k h ≡ 0 → numbers (answer υ 3 s k h) .first ≡ 1
+    → ((σ : Store) × LastWrite σ υ s k (numbers (answer υ 3 s k h) .second))
+    ⊎ ((t : ℕ) × Shows υ s k h t × ((σ : Store) × (τ : Store) × WrittenBy σ τ υ t k))
+read-written {υ} r s k h e one =
+    by-test (member (υ (WriteSet s)) k)
+    (λ m. let x = reads-own υ s k h e m in inl (rw (x .1) (has-write r s k (x .0) m)))
+    (λ m. let x = read-shows r s k h (looks υ s k h e m) one in
+    inr (x .0, x .1, written-by r (x .0) k (x .1 .there) (x .1 .wrote)))
