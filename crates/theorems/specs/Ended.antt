@@ -18,39 +18,13 @@ use Rattle.book.specs.Servers.{holds, partitionOf, placeOf, numberOf}
 use Rattle.book.specs.Views.{version, decided}
 use Rattle.book.specs.SessionSteps.{write, hasWrites, touches, end, endAnswer}
 use Rattle.book.specs.Refusals.{sessionThere, transactionThere, unused, allPrepared}
-use Rattle.book.specs.Steps.{Rule, ruleOf, refusal, after, answer, refused-unchanged, tickRule, startRule, readRule, writeRule, endRule, prepareRule, decideRule, commitRule, installRule, deliverRule, reportRule, shareRule, learnRule, moveRule, noRule}
+use Rattle.book.specs.Steps.{Rule, ruleOf, by-number, refusal, after, answer, refused-unchanged, startRule, writeRule, endRule, decideRule}
 use Rattle.book.specs.Reached.{Reached, Later}
 use Rattle.theorems.specs.Step.{asked-for}
 use Rattle.theorems.specs.Reach.{reached-later, reached-inv}
 use Rattle.theorems.specs.OwnWrites.{reached-own}
 use Rattle.theorems.specs.ReadYourWrites.{Looks, Shows, read-shows}
 use Rattle.theorems.specs.Carried.{transaction-kept}
-
--- what holds of each rule with its code holds of the rule of any four numbers
-by-number : (G : ℕ → Rule → Type 0) (σ : Store) (code a b c : ℕ)
-    → G 1 (tickRule σ a b c) → G 2 (startRule σ a b c) → G 3 (readRule σ a b c) → G 4 (writeRule σ a b c) → G 5 (endRule σ a b c)
-    → G 6 (prepareRule σ a b c) → G 7 (decideRule σ a b c) → G 8 (commitRule σ a b c) → G 9 (installRule σ a b c) → G 10 (deliverRule σ a b c)
-    → G 11 (reportRule σ a b c) → G 12 (shareRule σ a b c) → G 13 (learnRule σ a b c) → G 14 (moveRule σ a b c) → G code (noRule σ)
-    → G code (ruleOf σ code a b c)
-unfolding ruleOf
-by-number G σ code a b c g1 g2 g3 g4 g5 g6 g7 g8 g9 g10 g11 g12 g13 g14 g =
-    at 1 g1
-    (at 2 g2
-    (at 3 g3
-    (at 4 g4
-    (at 5 g5
-    (at 6 g6
-    (at 7 g7
-    (at 8 g8
-    (at 9 g9
-    (at 10 g10
-    (at 11 g11
-    (at 12 g12
-    (at 13 g13
-    (at 14 g14 g)))))))))))))
-  where
-    at : (n : ℕ) {x y : Rule} → G n x → G code y → G code (cond (eqb code n) x y)
-    at n p q = by-eq code n (λ e c. rw (c, e) p) (λ e c. rw c q)
 
 -- session s is running, and what it has written to key k is v
 abbrev pub Written : Store → ℕ → ℕ → ℕ → Type 0
