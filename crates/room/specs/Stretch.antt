@@ -46,7 +46,8 @@ pub own-i : (h p : ℕ) (c : Cell) → Own h p c → own h p c ≡ true
 unfolding own
 own-i h p c o = rw (within c (o .cell), le-leb (start h p) (at c) (o .low), lt-ltb (at c) (start h p + stretch) (o .high))
 
-five : (P : ℕ → Type 0) → P 5 → P 6 → P 7 → P 8 → P 9 → (n : ℕ) → 5 ≤ n → n ≤ 9 → P n
+-- what holds of the five kinds of a server
+pub five : (P : ℕ → Type 0) → P 5 → P 6 → P 7 → P 8 → P 9 → (n : ℕ) → 5 ≤ n → n ≤ 9 → P n
 five P a b c d e n lo hi =
     by-eq n 5
     (λ q _. rw q a)

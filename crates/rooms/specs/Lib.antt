@@ -3,3 +3,4 @@ pub mod Reached
 pub mod Kept
 pub mod Read
 pub mod Round
+pub mod Stretch

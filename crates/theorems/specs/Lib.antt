@@ -31,5 +31,6 @@ pub mod Calls
 pub mod Quiet
 pub mod Round
 pub mod RoundLists
+pub mod Stretches
 pub mod Ended
 pub mod Readers
