@@ -1,6 +1,7 @@
 /* The library and the second program side by side. Scripts stand on standard input, one after the other. After each setup and each
  * step the numbers are compared, and every word of the room with the second program's state written out by docs/ROOM.md. Between the
- * steps come setups that are spoilt, rooms of wrong length and rooms with one word changed. */
+ * steps come setups that are spoilt, rooms of wrong length, rooms with one word changed and rooms with a place decided that no
+ * transaction has. */
 #include "../second/store.h"
 #include "cranktimber.h"
 
@@ -184,7 +185,7 @@ static u64 most_of_transaction(size_t t, size_t i) {
     switch (i) {
     case 0: return store.sessions - 1;
     case 1: return store.halls - 1;
-    case 2: return time_bound();
+    case 2: return t < store.requests ? time_bound() : 0;
     case 3: return (UINT64_C(1) << KEYS) - 1;
     default: break;
     }
@@ -311,6 +312,17 @@ static void changed_room(const u64 *n) {
     room[word] = due[word] = kept;
 }
 
+/* A place that no transaction has yet is undecided: with a commit time there, within the bound or not, any step gets 1. */
+static void decided_place(const u64 *n) {
+    if (store.requests == REQUESTS)
+        return;
+    size_t t = store.requests + below(REQUESTS - store.requests);
+    size_t word = TRANSACTIONS_AT + TRANSACTION_WORDS * t + 2;
+    room[word] = due[word] = 1 + below(below(2) == 0 ? 8 : UINT64_MAX);
+    compare("a place decided that no transaction has", library_step(WORDS, n), turned_away(1));
+    room[word] = due[word] = 0;
+}
+
 /* ---- Scripts ---- */
 
 /* A number within these bounds, and the byte that closes it. */
@@ -350,6 +362,7 @@ static void run(void) {
         both_step(n);
         other_length(n);
         changed_room(n);
+        decided_place(n);
     }
 }
 

@@ -43,6 +43,9 @@ cachedOk σ b s k = leb (σ (CacheTime s k)) b
 abbrev pub highestState : Store → ℕ → ℕ
 highestState σ t = cond (ltb t (σ Transactions)) installed 0
 
+abbrev pub latestCommit : Store → ℕ → ℕ → ℕ
+latestCommit σ b t = cond (ltb t (σ Transactions)) b 0
+
 abbrev pub sharesOk : Store → ℕ → ℕ → Bool
 sharesOk σ b to = all hallsMax (λ f. sharedOk σ b to f)
 

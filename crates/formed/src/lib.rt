@@ -10,7 +10,7 @@ ghost use Rattle.book.specs.Folds.{all};
 ghost use Rattle.book.specs.Setup.{heldSomewhere, partitionsHeld, goodHalls, goodSessions, goodSetup};
 ghost use Rattle.book.specs.WellFormed.{pairsPrepared, timeBound, channelOk, serverOk, sessionOk, pairOk, transactionOk, wellFormed};
 ghost use Rattle.room.specs.Layout.{size, Within, store};
-ghost use Rattle.formed.specs.Blocks.{hasBit, maskOk, partitionOk, homeOk, preparedAt, clockOk, entryOk, hallOk, cachedOk, highestState, sharesOk, keptOk};
+ghost use Rattle.formed.specs.Blocks.{hasBit, maskOk, partitionOk, homeOk, preparedAt, clockOk, entryOk, hallOk, cachedOk, highestState, latestCommit, sharesOk, keptOk};
 use book::READING_MAX;
 use book::Timestamp;
 use room::BY;
@@ -371,6 +371,18 @@ fn highest_state(room: &[u64], t: usize) -> u64
     }
 }
 
+// The latest commit time that place t may have: a place that no transaction has yet is undecided.
+fn latest_commit(room: &[u64], latest: Timestamp, t: usize) -> Timestamp
+    requires { ⌜ length (now room) ≡ size ⌝ }
+    ensures { λ r. ⌜ r .0 ≡ latestCommit (store (now (room .entry))) (latest .0) t ⌝ }
+{
+    if (t as u64) < room::get(room, TRANSACTIONS, 0, 0, 0, 0) {
+        latest
+    } else {
+        Timestamp(0)
+    }
+}
+
 fn pair_ok(room: &[u64], latest: Timestamp, t: usize, p: usize) -> bool
     requires { ⌜ (length (now room) ≡ size) × (t < placesMax) × (p < partitionsMax) ⌝ }
     ensures { λ r. ⌜ r ≡ pairOk (store (now (room .entry))) (latest .0) t p ⌝ }
@@ -402,9 +414,10 @@ fn transaction_ok(room: &[u64], latest: Timestamp, t: usize) -> bool
     let from = room::get(room, FROM, t, 0, 0, 0);
     let halls = room::get(room, HALLS, 0, 0, 0, 0);
     let writes = room::get(room, KEY_SET, t, 0, 0, 0);
+    let commit = latest_commit(room, latest, t);
     by < sessions
         && (from < halls
-            && (in_time(room, latest, COMMIT_TIME, t, 0, 0, 0)
+            && (in_time(room, commit, COMMIT_TIME, t, 0, 0, 0)
                 && (writes < KEY_SETS && pairs_ok(room, latest, t))))
 }
 

@@ -127,6 +127,7 @@ module _ (σ : Store) (F : Formed σ) where
       let places : ask σ s Transactions ≤ placesMax = m in
       let session = put1 (_< σ Sessions) σ By t s l (F .session) in
       let hall = put1 (_< σ Halls) σ From t _ home (F .hall) in
+      let undecided : (u : ℕ) → u < placesMax → suc t ≤ u → σ (CommitTime u) ≡ 0 = λ u i j. F .undecided u i (omega arith) in
       let keys = put1 (_< 2 ^ keys) σ KeySet t _ (F .writes s (omega (arith, U))) (F .keys) in
       let state : (u p : ℕ) → u < placesMax → p < partitionsMax → ask σ s (State u p) ≤ cond (ltb u (suc t)) 4 0 =
       λ u p i j. by-eq t u
@@ -177,6 +178,8 @@ module _ (σ : Store) (F : Formed σ) where
       let i : t < placesMax = omega (arith, F .places) in
       let new : decision σ t ≤ b = largest-within partitionsMax _ (λ p. σ (Proposed t p)) b (λ p j. T .proposed t p i j) in
       let commit = put1 (_≤ b) σ CommitTime t _ new (T .commit) in
+      let undecided : (u : ℕ) → u < placesMax → σ Transactions ≤ u → decide σ t (CommitTime u) ≡ 0 =
+      λ u j m. by-cell (CommitTime t) (CommitTime u) (λ k c. let q = k .i in absurd (omega arith)) (λ c. rw c (F .undecided u j m)) in
       let last = put1 (_≤ b) σ LastCommit s _ new (T .last) in
       let cached : All2 (_≤ b) (decide σ t) CacheTime sessionsMax keys =
       λ a k i j. choose (_≤ b) (eqb s a && member (σ (KeySet t)) k) new (T .cached a k i j) in
