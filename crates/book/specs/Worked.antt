@@ -1,7 +1,7 @@
 -- Lines worked out by hand from document 01, its printout and document 02: setup; steps 1 to 14, for each what it answers, what it changes and
 -- what stays, and its refusals, where the number is given and where it just is not; views; sizes; a room that is not well formed.
 use Prim.Native.Nat.{ℕ, zero, suc, _^_, _-_, _+_}
-use mathlib.Core.Bool.{Bool, cond}
+use mathlib.Core.Bool.{Bool, true, cond}
 use mathlib.Core.Path.{refl}
 use mathlib.Core.List.{List, [], _∷_}
 use Rattle.book.specs.declared.View.the-variants.{Nothing, Seen}
@@ -10,9 +10,9 @@ use Rattle.book.specs.Cells.{Store, _⟨_≔_⟩, Halls, Partitions, Ses
 use Rattle.book.specs.Folds.{any, all, count, sum, lowest, largest}
 use Rattle.book.specs.Sets.{member, include, setOf}
 use Rattle.book.specs.Answers.{stamp, numbers, viewNumbers}
-use Rattle.book.specs.Servers.{firstFrom, writer}
+use Rattle.book.specs.Servers.{firstFrom, writer, numberOf}
 use Rattle.book.specs.Views.{merge, mergeAll, stampOf, decidedView, heldView}
-use Rattle.book.specs.Setup.{firstStore, setupRefusal, setupAnswer}
+use Rattle.book.specs.Setup.{goodSetup, firstStore, setupRefusal, setupAnswer}
 use Rattle.book.specs.Steps.{ruleOf, refusal, after, answer}
 use Rattle.book.specs.WellFormed.{transactionOk}
 use Rattle.book.specs.Board.{Line, Holds, _gives_, first, second, desk, burner, reader}
@@ -94,9 +94,10 @@ worked =
     -- "each partition below N is held by some hall": partition 0 is not
     ∷ setupRefusal (2 ∷ []) (0 ∷ 1 ∷ []) gives 2
     ∷ setupRefusal (2 ∷ 1 ∷ []) (0 ∷ 1 ∷ []) gives 0
-    -- "Each mask is 1 to 15": 17 has partition 0's bit, so that nothing else speaks against it
+    -- "Each mask is 1 to 15": 17 has partition 0's bit, and beside a hall with partition 0 stands one with 16: nothing else speaks against them
     ∷ setupRefusal (17 ∷ []) (0 ∷ 0 ∷ []) gives 2
     ∷ setupRefusal (15 ∷ []) (0 ∷ 0 ∷ []) gives 0
+    ∷ setupRefusal (1 ∷ 16 ∷ []) (0 ∷ 0 ∷ []) gives 2
     ∷ setupRefusal (1 ∷ 0 ∷ []) (0 ∷ 0 ∷ []) gives 2
     ∷ setupRefusal (1 ∷ 1 ∷ []) (0 ∷ 0 ∷ []) gives 0
     -- "Each session has a home server": hall 1 has partition 1 alone
@@ -134,12 +135,14 @@ worked =
     ∷ first (halls ⟨ Stable 1 1 ≔ 70 ⟩ ⟨ Snapshot 1 ≔ 100 ⟩) 2 1 0 0 gives 100
     ∷ first (halls ⟨ Stable 1 1 ≔ 100 ⟩ ⟨ Snapshot 1 ≔ 70 ⟩) 2 1 0 0 gives 100
     ∷ first (halls ⟨ Stable 1 1 ≔ 100 ⟩ ⟨ Snapshot 1 ≔ 70 ⟩) 2 0 0 0 gives 0
+    ∷ first (halls ⟨ HomePartition 0 ≔ 1 ⟩ ⟨ Stable 0 1 ≔ 100 ⟩) 2 0 0 0 gives 100
     ∷ after (halls ⟨ Snapshot 0 ≔ 100 ⟩) 2 0 0 0 (Stable 0 0) gives 100
     ∷ after (halls ⟨ Snapshot 0 ≔ 100 ⟩) 2 0 0 0 (Stable 0 1) gives 0
     ∷ after (halls ⟨ Stable 0 0 ≔ 100 ⟩) 2 0 0 0 (Snapshot 0) gives 100
     ∷ after (halls ⟨ Stable 0 0 ≔ 100 ⟩) 2 0 0 0 (Snapshot 1) gives 0
     -- the lag. Step 4 of the printout; document 02, d: "at step 30 both are 120, so the lag is still 20"
     ∷ second (halls ⟨ Reading 0 0 ≔ 100 ⟩) 2 0 0 0 gives 100
+    ∷ second (halls ⟨ HomePartition 0 ≔ 1 ⟩ ⟨ Reading 0 1 ≔ 100 ⟩) 2 0 0 0 gives 100
     ∷ second (halls ⟨ Reading 1 1 ≔ 120 ⟩ ⟨ Hybrid 1 1 ≔ 120 ⟩ ⟨ Stable 1 1 ≔ 100 ⟩) 2 1 0 0 gives 20
     -- "A hall whose clock runs slow": a reading of 40 under a hybrid clock of 120
     ∷ second (halls ⟨ Reading 1 1 ≔ 40 ⟩ ⟨ Hybrid 1 1 ≔ 120 ⟩ ⟨ Stable 1 1 ≔ 100 ⟩) 2 1 0 0 gives 20
@@ -295,6 +298,7 @@ worked =
     ∷ after (writing ⟨ Transactions ≔ 64 ⟩) 5 1 0 0 (Status 1) gives running
     ∷ refusal (writing ⟨ Transactions ≔ 64 ⟩ ⟨ WriteSet 1 ≔ 0 ⟩) 5 1 0 0 gives 0
     ∷ refusal (writing ⟨ Transactions ≔ 64 ⟩ ⟨ Status 1 ≔ committing ⟩) 5 1 0 0 gives 7
+    ∷ refusal (writing ⟨ Transactions ≔ 64 ⟩) 5 1 0 1 gives 3
     -- 6. Prepare: "At the writing server", so in hall 0 for partition 0 and in hall 1 for partition 1
     ∷ first (bothAsked ⟨ Reading 0 0 ≔ 80 ⟩) 6 1 0 0 gives 80
     ∷ first (bothAsked ⟨ Reading 1 1 ≔ 90 ⟩) 6 1 1 0 gives 90
@@ -410,6 +414,10 @@ worked =
     ∷ after waitingAt1 9 0 1 0 (Hybrid 0 1) gives 100
     ∷ after waitingAt1 9 0 1 0 (Entry 0 1 1) gives 0
     ∷ after waitingAt1 9 0 1 0 (Entry 1 1 0) gives 0
+    -- step 20 of the printout, in hall 1
+    ∷ first (halls ⟨ Reading 1 1 ≔ 120 ⟩) 9 1 1 0 gives 120
+    ∷ after (halls ⟨ Reading 1 1 ≔ 120 ⟩) 9 1 1 0 (Entry 1 1 1) gives 120
+    ∷ after (halls ⟨ Reading 1 1 ≔ 120 ⟩) 9 1 1 0 (Entry 1 1 0) gives 0
     -- "If the server has prepared transactions, version clock = lowest proposed time - 1": then the hybrid clock stays
     ∷ first (bothPrepared ⟨ Reading 0 1 ≔ 120 ⟩ ⟨ Hybrid 0 1 ≔ 90 ⟩) 9 0 1 0 gives 89
     ∷ after (bothPrepared ⟨ Reading 0 1 ≔ 120 ⟩ ⟨ Hybrid 0 1 ≔ 90 ⟩) 9 0 1 0 (Hybrid 0 1) gives 90
@@ -437,22 +445,12 @@ worked =
     ∷ after waitingAt1 9 0 1 0 (Waiting 1 1 0) gives 1
     ∷ after waitingAt1 9 0 1 0 (Waiting 0 1 0) gives 0
     ∷ after waitingAt1 9 0 1 0 (Waiting 0 1 1) gives 0
+    ∷ after waitingAt1 9 0 1 0 (Waiting 1 0 0) gives 0
     ∷ after waitingAt1 9 0 1 0 (ClockSent 1 1 0 0) gives 100
+    ∷ after (bothPrepared ⟨ Hybrid 0 1 ≔ 90 ⟩) 9 0 1 0 (ClockSent 1 1 0 0) gives 89
     ∷ after waitingAt1 9 0 1 0 (Carries 1 1 0 0) gives 1
     ∷ after (waitingAt1 ⟨ Transactions ≔ 2 ⟩ ⟨ State 1 1 ≔ waiting ⟩ ⟨ CommitTime 1 ≔ 99 ⟩) 9 0 1 0 (Carries 1 1 0 0) gives 3
     ∷ after waitingAt1 9 0 1 0 (First 1 1 0) gives 0
-    ∷ after three 9 0 0 0 (Waiting 1 0 0) gives 1
-    ∷ after three 9 0 0 0 (Waiting 2 0 0) gives 1
-    ∷ after three 9 0 0 0 (Waiting 2 0 1) gives 0
-    ∷ after three 9 0 0 0 (Waiting 3 0 0) gives 0
-    -- "even if empty"
-    ∷ after three 9 0 0 0 (ClockSent 2 0 0 0) gives 100
-    ∷ after (three ⟨ Carries 2 0 0 0 ≔ 1 ⟩) 9 0 0 0 (Carries 2 0 0 0) gives 0
-    -- "8 messages per channel", in slots counted mod 8: behind those in 6 and 7, slot 0
-    ∷ after (three ⟨ First 1 0 0 ≔ 6 ⟩ ⟨ Waiting 1 0 0 ≔ 1 ⟩) 9 0 0 0 (ClockSent 1 0 0 7) gives 100
-    ∷ after (three ⟨ First 1 0 0 ≔ 6 ⟩ ⟨ Waiting 1 0 0 ≔ 2 ⟩) 9 0 0 0 (ClockSent 1 0 0 0) gives 100
-    ∷ after (three ⟨ First 1 0 0 ≔ 6 ⟩ ⟨ Waiting 1 0 0 ≔ 2 ⟩) 9 0 0 0 (ClockSent 1 0 0 7) gives 0
-    ∷ after (three ⟨ First 1 0 0 ≔ 6 ⟩ ⟨ Waiting 1 0 0 ≔ 2 ⟩) 9 0 0 0 (Waiting 1 0 0) gives 3
     -- document 02, b: with nothing to install and the clock at 100 as before it is quiet, and taken at a full channel
     ∷ refusal (sent ⟨ Waiting 1 1 0 ≔ 8 ⟩) 9 0 1 0 gives 0
     ∷ first sent 9 0 1 0 gives 100
@@ -466,6 +464,20 @@ worked =
     -- prepared at 90, nothing to install: the clock comes to 89, and stays there
     ∷ after bothPrepared 9 0 1 0 (Waiting 1 1 0) gives 1
     ∷ after (bothPrepared ⟨ Entry 0 1 0 ≔ 89 ⟩) 9 0 1 0 (Waiting 1 1 0) gives 0
+    -- "to each other holder": halls 1 and 2, and none of the others' channels
+    ∷ after three 9 0 0 0 (Waiting 1 0 0) gives 1
+    ∷ after three 9 0 0 0 (Waiting 2 0 0) gives 1
+    ∷ after three 9 0 0 0 (Waiting 2 0 1) gives 0
+    ∷ after three 9 0 0 0 (Waiting 3 0 0) gives 0
+    ∷ after (halls ⟨ Reading 1 1 ≔ 120 ⟩) 9 1 1 0 (Waiting 0 1 1) gives 1
+    -- "even if empty"
+    ∷ after three 9 0 0 0 (ClockSent 2 0 0 0) gives 100
+    ∷ after (three ⟨ Carries 2 0 0 0 ≔ 1 ⟩) 9 0 0 0 (Carries 2 0 0 0) gives 0
+    -- "8 messages per channel", in slots counted mod 8: behind those in 6 and 7, slot 0
+    ∷ after (three ⟨ First 1 0 0 ≔ 6 ⟩ ⟨ Waiting 1 0 0 ≔ 1 ⟩) 9 0 0 0 (ClockSent 1 0 0 7) gives 100
+    ∷ after (three ⟨ First 1 0 0 ≔ 6 ⟩ ⟨ Waiting 1 0 0 ≔ 2 ⟩) 9 0 0 0 (ClockSent 1 0 0 0) gives 100
+    ∷ after (three ⟨ First 1 0 0 ≔ 6 ⟩ ⟨ Waiting 1 0 0 ≔ 2 ⟩) 9 0 0 0 (ClockSent 1 0 0 7) gives 0
+    ∷ after (three ⟨ First 1 0 0 ≔ 6 ⟩ ⟨ Waiting 1 0 0 ≔ 2 ⟩) 9 0 0 0 (Waiting 1 0 0) gives 3
     -- 3: a server that is not there, an unused number
     ∷ refusal waitingAt1 9 1 0 0 gives 3
     ∷ refusal waitingAt1 9 2 1 0 gives 3
@@ -606,6 +618,7 @@ worked =
     ∷ writer (four 1) 0 0 gives 2
     ∷ writer (four 2) 0 0 gives 2
     ∷ writer (four 3) 0 0 gives 0
+    ∷ writer (four 3 ⟨ Mask 0 ≔ 0 ⟩) 0 0 gives 2
     -- Views. "A later stamp wins, compared in that order": a later time, whatever hall and number (P5 has the hall)
     ∷ viewNumbers (merge (Seen 1 (stamp 101 0 1)) (Seen 2 (stamp 100 1 2))) .second gives 1
     ∷ viewNumbers (merge (Seen 2 (stamp 100 1 2)) (Seen 1 (stamp 101 0 1))) .second gives 1
@@ -614,6 +627,7 @@ worked =
     ∷ viewNumbers (merge (Seen 2 (stamp 100 0 2)) (Seen 1 (stamp 100 0 1))) .second gives 2
     -- "Of two views with equal stamps the first is kept.", "nothing merged with a view is that view"
     ∷ viewNumbers (merge (Seen 1 (stamp 100 0 1)) (Seen 2 (stamp 100 0 1))) .second gives 1
+    ∷ viewNumbers (mergeAll 2 (λ t. true) (λ t. Seen (numberOf t) (stamp 100 0 1))) .second gives 1
     ∷ viewNumbers (merge Nothing (Seen 2 (stamp 100 0 1))) .second gives 2
     ∷ viewNumbers (merge (Seen 2 (stamp 100 0 1)) Nothing) .second gives 2
     ∷ viewNumbers (merge Nothing Nothing) .first gives 0
@@ -644,7 +658,11 @@ worked =
     ∷ after (sent ⟨ Carries 1 1 0 0 ≔ 2 ^ 63 ⟩) 10 1 0 1 (Held 1 1 63) gives 1
     -- "No timestamp passes 2^48 - 1 + 256"
     ∷ timeMax gives (2 ^ 48 + 255)
-    -- Well formed: "a place that no transaction has yet is undecided"
+    -- Well formed: the numbers of setup, N among them; a hall that is not there may have any mask
+    ∷ yes (goodSetup halls) gives 1
+    ∷ yes (goodSetup (halls ⟨ Partitions ≔ 1 ⟩)) gives 0
+    ∷ yes (goodSetup (halls ⟨ Mask 2 ≔ 4 ⟩)) gives 1
+    -- "a place that no transaction has yet is undecided"
     ∷ yes (transactionOk (halls ⟨ CommitTime 0 ≔ 5 ⟩) timeMax 0) gives 0
     ∷ yes (transactionOk halls timeMax 0) gives 1
     ∷ yes (transactionOk (halls ⟨ Transactions ≔ 1 ⟩ ⟨ CommitTime 0 ≔ 5 ⟩) timeMax 0) gives 1
@@ -654,4 +672,4 @@ worked =
 pub worked-holds : Holds worked
 unfolding worked homes any all count sum lowest largest member include setOf firstFrom mergeAll setupRefusal setupAnswer ruleOf refusal after answer
 worked-holds =
-    (refl, (refl, (refl, (refl, (refl, (refl, (refl, (refl, (refl, (refl, (refl, (refl, (refl, (refl, (refl, (refl, (refl, (refl, (refl, (refl, (refl, (refl, (refl, (refl, (refl, (refl, (refl, (refl, (refl, (refl, (refl, (refl, (refl, (refl, (refl, (refl, (refl, (refl, (refl, (refl, (refl, (refl, (refl, (refl, (refl, (refl, (refl, (refl, (refl, (refl, (refl, (refl, (refl, (refl, (refl, (refl, (refl, (refl, (refl, (refl, (refl, (refl, (refl, (refl, (refl, (refl, (refl, (refl, (refl, (refl, (refl, (refl, (refl, (refl, (refl, (refl, (refl, (refl, (refl, (refl, (refl, (refl, (refl, (refl, (refl, (refl, (refl, (refl, (refl, (refl, (refl, (refl, (refl, (refl, (refl, (refl, (refl, (refl, (refl, (refl, (refl, (refl, (refl, (refl, (refl, (refl, (refl, (refl, (refl, (refl, (refl, (refl, (refl, (refl, (refl, (refl, (refl, (refl, (refl, (refl, (refl, (refl, (refl, (refl, (refl, (refl, (refl, (refl, (refl, (refl, (refl, (refl, (refl, (refl, (refl, (refl, (refl, (refl, (refl, (refl, (refl, (refl, (refl, (refl, (refl, (refl, (refl, (refl, (refl, (refl, (refl, (refl, (refl, (refl, (refl, (refl, (refl, (refl, (refl, (refl, (refl, (refl, (refl, (refl, (refl, (refl, (refl, (refl, (refl, (refl, (refl, (refl, (refl, (refl, (refl, (refl, (refl, (refl, (refl, (refl, (refl, (refl, (refl, (refl, (refl, (refl, (refl, (refl, (refl, (refl, (refl, (refl, (refl, (refl, (refl, (refl, (refl, (refl, (refl, (refl, (refl, (refl, (refl, (refl, (refl, (refl, (refl, (refl, (refl, (refl, (refl, (refl, (refl, (refl, (refl, (refl, (refl, (refl, (refl, (refl, (refl, (refl, (refl, (refl, (refl, (refl, (refl, (refl, (refl, (refl, (refl, (refl, (refl, (refl, (refl, (refl, (refl, (refl, (refl, (refl, (refl, (refl, (refl, (refl, (refl, (refl, (refl, (refl, (refl, (refl, (refl, (refl, (refl, (refl, (refl, (refl, (refl, (refl, (refl, (refl, (refl, (refl, (refl, (refl, (refl, (refl, (refl, (refl, (refl, (refl, (refl, (refl, (refl, (refl, (refl, (refl, (refl, (refl, (refl, (refl, (refl, (refl, (refl, (refl, (refl, (refl, (refl, (refl, (refl, (refl, (refl, (refl, (refl, (refl, (refl, (refl, (refl, (refl, (refl, (refl, (refl, (refl, (refl, (refl, (refl, (refl, (refl, (refl, (refl, (refl, (refl, (refl, (refl, (refl, (refl, (refl, (refl, (refl, (refl, (refl, (refl, (refl, (refl, (refl, (refl, (refl, (refl, (refl, (refl, (refl, (refl, (refl, (refl, (refl, (refl, (refl, (refl, (refl, (refl, (refl, (refl, (refl, (refl, (refl, (refl, (refl, (refl, (refl, (refl, (refl, (refl, (refl, (refl, (refl, (refl, (refl, (refl, (refl, (refl, (refl, (refl, (refl, (refl, (refl, (refl, (refl, (refl, (refl, (refl, (refl, (refl, (refl, (refl, (refl, (refl, (refl, (refl, (refl, (refl, (refl, (refl, (refl, (refl, (refl, (refl, (refl, (refl, (refl, (refl, (refl, (refl, (refl, (refl, (refl, (refl, (refl, (refl, (refl, (refl, (refl, (refl, (refl, (refl, (refl, (refl, (refl, (refl, (refl, (refl, (refl, (refl, (refl, (refl, (refl, (refl, (refl, (refl, (refl, (refl, (refl, (refl, (refl, (refl, (refl, (refl, (refl, (refl, (refl, (refl, (refl, (refl, (refl, (refl, (refl, (refl, (refl, (refl, (refl, (refl, (refl, (refl, (refl, (refl, (refl, (refl, (refl, (refl, (refl, (refl, (refl, (refl, (refl, (refl, (refl, (refl, (refl, (refl, (refl, (refl, (refl, (refl, (refl, (refl, (refl, (refl, (refl, (refl, (refl, tt))))))))))))))))))))))))))))))))))))))))))))))))))))))))))))))))))))))))))))))))))))))))))))))))))))))))))))))))))))))))))))))))))))))))))))))))))))))))))))))))))))))))))))))))))))))))))))))))))))))))))))))))))))))))))))))))))))))))))))))))))))))))))))))))))))))))))))))))))))))))))))))))))))))))))))))))))))))))))))))))))))))))))))))))))))))))))))))))))))))))))))))))))))))))))))))))))))))))))))))))))))))))))))))))))))))))))))))))))))))))))))))))))))))))))))))))))))
+    (refl, (refl, (refl, (refl, (refl, (refl, (refl, (refl, (refl, (refl, (refl, (refl, (refl, (refl, (refl, (refl, (refl, (refl, (refl, (refl, (refl, (refl, (refl, (refl, (refl, (refl, (refl, (refl, (refl, (refl, (refl, (refl, (refl, (refl, (refl, (refl, (refl, (refl, (refl, (refl, (refl, (refl, (refl, (refl, (refl, (refl, (refl, (refl, (refl, (refl, (refl, (refl, (refl, (refl, (refl, (refl, (refl, (refl, (refl, (refl, (refl, (refl, (refl, (refl, (refl, (refl, (refl, (refl, (refl, (refl, (refl, (refl, (refl, (refl, (refl, (refl, (refl, (refl, (refl, (refl, (refl, (refl, (refl, (refl, (refl, (refl, (refl, (refl, (refl, (refl, (refl, (refl, (refl, (refl, (refl, (refl, (refl, (refl, (refl, (refl, (refl, (refl, (refl, (refl, (refl, (refl, (refl, (refl, (refl, (refl, (refl, (refl, (refl, (refl, (refl, (refl, (refl, (refl, (refl, (refl, (refl, (refl, (refl, (refl, (refl, (refl, (refl, (refl, (refl, (refl, (refl, (refl, (refl, (refl, (refl, (refl, (refl, (refl, (refl, (refl, (refl, (refl, (refl, (refl, (refl, (refl, (refl, (refl, (refl, (refl, (refl, (refl, (refl, (refl, (refl, (refl, (refl, (refl, (refl, (refl, (refl, (refl, (refl, (refl, (refl, (refl, (refl, (refl, (refl, (refl, (refl, (refl, (refl, (refl, (refl, (refl, (refl, (refl, (refl, (refl, (refl, (refl, (refl, (refl, (refl, (refl, (refl, (refl, (refl, (refl, (refl, (refl, (refl, (refl, (refl, (refl, (refl, (refl, (refl, (refl, (refl, (refl, (refl, (refl, (refl, (refl, (refl, (refl, (refl, (refl, (refl, (refl, (refl, (refl, (refl, (refl, (refl, (refl, (refl, (refl, (refl, (refl, (refl, (refl, (refl, (refl, (refl, (refl, (refl, (refl, (refl, (refl, (refl, (refl, (refl, (refl, (refl, (refl, (refl, (refl, (refl, (refl, (refl, (refl, (refl, (refl, (refl, (refl, (refl, (refl, (refl, (refl, (refl, (refl, (refl, (refl, (refl, (refl, (refl, (refl, (refl, (refl, (refl, (refl, (refl, (refl, (refl, (refl, (refl, (refl, (refl, (refl, (refl, (refl, (refl, (refl, (refl, (refl, (refl, (refl, (refl, (refl, (refl, (refl, (refl, (refl, (refl, (refl, (refl, (refl, (refl, (refl, (refl, (refl, (refl, (refl, (refl, (refl, (refl, (refl, (refl, (refl, (refl, (refl, (refl, (refl, (refl, (refl, (refl, (refl, (refl, (refl, (refl, (refl, (refl, (refl, (refl, (refl, (refl, (refl, (refl, (refl, (refl, (refl, (refl, (refl, (refl, (refl, (refl, (refl, (refl, (refl, (refl, (refl, (refl, (refl, (refl, (refl, (refl, (refl, (refl, (refl, (refl, (refl, (refl, (refl, (refl, (refl, (refl, (refl, (refl, (refl, (refl, (refl, (refl, (refl, (refl, (refl, (refl, (refl, (refl, (refl, (refl, (refl, (refl, (refl, (refl, (refl, (refl, (refl, (refl, (refl, (refl, (refl, (refl, (refl, (refl, (refl, (refl, (refl, (refl, (refl, (refl, (refl, (refl, (refl, (refl, (refl, (refl, (refl, (refl, (refl, (refl, (refl, (refl, (refl, (refl, (refl, (refl, (refl, (refl, (refl, (refl, (refl, (refl, (refl, (refl, (refl, (refl, (refl, (refl, (refl, (refl, (refl, (refl, (refl, (refl, (refl, (refl, (refl, (refl, (refl, (refl, (refl, (refl, (refl, (refl, (refl, (refl, (refl, (refl, (refl, (refl, (refl, (refl, (refl, (refl, (refl, (refl, (refl, (refl, (refl, (refl, (refl, (refl, (refl, (refl, (refl, (refl, (refl, (refl, (refl, (refl, (refl, (refl, (refl, (refl, (refl, (refl, (refl, (refl, (refl, (refl, (refl, (refl, (refl, (refl, (refl, (refl, (refl, (refl, (refl, (refl, (refl, (refl, (refl, (refl, (refl, (refl, (refl, (refl, (refl, (refl, tt)))))))))))))))))))))))))))))))))))))))))))))))))))))))))))))))))))))))))))))))))))))))))))))))))))))))))))))))))))))))))))))))))))))))))))))))))))))))))))))))))))))))))))))))))))))))))))))))))))))))))))))))))))))))))))))))))))))))))))))))))))))))))))))))))))))))))))))))))))))))))))))))))))))))))))))))))))))))))))))))))))))))))))))))))))))))))))))))))))))))))))))))))))))))))))))))))))))))))))))))))))))))))))))))))))))))))))))))))))))))))))))))))))))))))))))))))))))))))))))))))))
