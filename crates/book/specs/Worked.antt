@@ -119,12 +119,12 @@ worked =
     ∷ after halls 1 0 1 90 (Hybrid 0 1) gives 0
     ∷ first halls 1 0 1 90 gives 0
     ∷ second halls 1 0 1 90 gives 0
-    -- 3: hall 1 has no partition 0; a hall, and a partition, that is not there, whatever its mask says
+    -- number 3: hall 1 has no partition 0; a hall, and a partition, that is not there, whatever its mask says
     ∷ refusal halls 1 1 0 90 gives 3
     ∷ refusal halls 1 1 1 90 gives 0
     ∷ refusal (halls ⟨ Mask 2 ≔ 3 ⟩) 1 2 0 90 gives 3
     ∷ refusal (halls ⟨ Mask 0 ≔ 7 ⟩) 1 0 2 90 gives 3
-    -- 4, after 3 (P8 has 2^48 - 1 and 2^48); 5: "An equal reading is fine."
+    -- number 4, after 3 (P8 has 2^48 - 1 and 2^48); 5: "An equal reading is fine."
     ∷ refusal halls 1 1 0 (2 ^ 48) gives 3
     ∷ refusal (halls ⟨ Reading 0 0 ≔ 90 ⟩) 1 0 0 90 gives 0
     ∷ refusal (halls ⟨ Reading 0 0 ≔ 90 ⟩) 1 0 0 89 gives 5
@@ -161,12 +161,12 @@ worked =
     ∷ after (halls ⟨ Stable 0 0 ≔ 100 ⟩ ⟨ CacheTime 0 31 ≔ 100 ⟩) 2 0 0 0 (CacheTime 0 31) gives 0
     ∷ after (halls ⟨ Stable 0 0 ≔ 100 ⟩ ⟨ CacheTime 1 0 ≔ 70 ⟩) 2 0 0 0 (CacheTime 1 0) gives 70
     ∷ after (halls ⟨ CacheTime 0 7 ≔ 101 ⟩ ⟨ CacheValue 0 7 ≔ 44 ⟩ ⟨ Stable 0 0 ≔ 100 ⟩) 2 0 0 0 (CacheValue 0 7) gives 44
-    -- 3: "session .. not there", "unused number not 0"
+    -- number 3: "session .. not there", "unused number not 0"
     ∷ refusal halls 2 2 0 0 gives 3
     ∷ refusal halls 2 1 0 0 gives 0
     ∷ refusal halls 2 0 1 0 gives 3
     ∷ refusal halls 2 0 0 1 gives 3
-    -- 6: "start on a session that isn't idle", after 3
+    -- number 6: "start on a session that isn't idle", after 3
     ∷ refusal writing 2 1 0 0 gives 6
     ∷ refusal bothAsked 2 1 0 0 gives 6
     ∷ refusal bothAsked 2 0 0 0 gives 0
@@ -199,7 +199,7 @@ worked =
     ∷ after looking 3 0 1 0 (CacheTime 0 1) gives 150
     ∷ after looking 3 0 1 0 (ReadSet 1) gives 0
     ∷ after looking 3 0 1 0 (Status 0) gives running
-    -- 3: a session, a key (P9), a hall that is not there; "a read in a hall without the key's partition", wherever the answer comes from
+    -- number 3: a session, a key (P9), a hall that is not there; "a read in a hall without the key's partition", wherever the answer comes from
     ∷ refusal looking 3 2 1 0 gives 3
     ∷ refusal looking 3 0 1 2 gives 3
     ∷ refusal looking 3 0 1 1 gives 0
@@ -207,7 +207,7 @@ worked =
     ∷ refusal writing 3 1 0 1 gives 3
     ∷ refusal (looking ⟨ ReadSet 0 ≔ 1 ⟩) 3 0 0 1 gives 3
     ∷ refusal (looking ⟨ CacheTime 0 0 ≔ 150 ⟩) 3 0 0 1 gives 3
-    -- 7: "on a session that isn't running", after 3
+    -- number 7: "on a session that isn't running", after 3
     ∷ refusal (looking ⟨ Status 0 ≔ idle ⟩) 3 0 1 0 gives 7
     ∷ refusal (looking ⟨ Status 0 ≔ committing ⟩) 3 0 1 0 gives 7
     ∷ refusal (looking ⟨ Status 0 ≔ idle ⟩) 3 0 0 1 gives 3
@@ -226,7 +226,7 @@ worked =
     ∷ second writing 4 1 1 45 gives 0
     -- "A write set may name all 32 keys."
     ∷ after (writing ⟨ WriteSet 1 ≔ 2 ^ 31 - 1 ⟩) 4 1 31 45 (WriteSet 1) gives (2 ^ 32 - 1)
-    -- 3: a session or a key (P9) that is not there; no hall is asked for, so session 1 may write key 0
+    -- number 3: a session or a key (P9) that is not there; no hall is asked for, so session 1 may write key 0
     ∷ refusal writing 4 2 1 45 gives 3
     ∷ refusal writing 4 1 32 45 gives 3
     ∷ refusal writing 4 1 0 45 gives 0
@@ -238,7 +238,7 @@ worked =
     ∷ refusal (reader 0) 4 0 32 100001 gives 3
     ∷ refusal halls 4 0 0 100001 gives 12
     ∷ refusal desk 4 0 0 100001 gives 12
-    -- 7
+    -- number 7: idle, committing; after 3
     ∷ refusal halls 4 0 0 100000 gives 7
     ∷ refusal desk 4 0 0 100000 gives 7
     ∷ refusal halls 4 2 0 45 gives 3
@@ -283,15 +283,15 @@ worked =
     ∷ after (writing ⟨ WriteSet 1 ≔ 0 ⟩) 5 1 0 0 (By 0) gives 0
     ∷ after (writing ⟨ WriteSet 1 ≔ 0 ⟩ ⟨ ReadSet 1 ≔ 2 ⟩) 5 1 0 0 (ReadSet 1) gives 2
     ∷ after (writing ⟨ WriteSet 1 ≔ 0 ⟩ ⟨ LastCommit 1 ≔ 100 ⟩) 5 1 0 0 (LastCommit 1) gives 100
-    -- 3
+    -- number 3
     ∷ refusal writing 5 2 0 0 gives 3
     ∷ refusal writing 5 1 1 0 gives 3
     ∷ refusal writing 5 1 0 1 gives 3
-    -- 7: idle, committing; after 3
+    -- number 7: idle, committing; after 3
     ∷ refusal halls 5 0 0 0 gives 7
     ∷ refusal bothAsked 5 1 0 0 gives 7
     ∷ refusal halls 5 0 0 1 gives 3
-    -- 8: "end with writes after 64 such requests; the session stays running", after 7
+    -- number 8: "end with writes after 64 such requests; the session stays running", after 7
     ∷ refusal (writing ⟨ Transactions ≔ 63 ⟩) 5 1 0 0 gives 0
     ∷ first (writing ⟨ Transactions ≔ 63 ⟩) 5 1 0 0 gives 64
     ∷ refusal (writing ⟨ Transactions ≔ 64 ⟩) 5 1 0 0 gives 8
@@ -320,13 +320,13 @@ worked =
     ∷ after bothAsked 6 1 1 0 (Status 1) gives committing
     ∷ after bothAsked 6 1 1 0 (CommitTime 0) gives 0
     ∷ after (bothAsked ⟨ Entry 1 1 1 ≔ 5 ⟩) 6 1 1 0 (Entry 1 1 1) gives 5
-    -- 3: a transaction number or a partition that is not there, an unused number
+    -- number 3: a transaction number or a partition that is not there, an unused number
     ∷ refusal bothAsked 6 0 0 0 gives 3
     ∷ refusal bothAsked 6 2 0 0 gives 3
     ∷ refusal bothAsked 6 1 2 0 gives 3
     ∷ refusal bothAsked 6 1 0 1 gives 3
     ∷ refusal bothAsked 6 1 0 0 gives 0
-    -- 9: "prepare where not asked": not written, prepared, waiting, installed; after 3
+    -- number 9: "prepare where not asked": not written, prepared, waiting, installed; after 3
     ∷ refusal (bothAsked ⟨ State 0 0 ≔ 0 ⟩) 6 1 0 0 gives 9
     ∷ refusal bothPrepared 6 1 0 0 gives 9
     ∷ refusal waitingAt1 6 1 1 0 gives 9
@@ -362,13 +362,13 @@ worked =
     ∷ after deciding 7 1 0 0 (Hybrid 1 1) gives 0
     ∷ after (deciding ⟨ ReadSet 1 ≔ 2 ⟩) 7 1 0 0 (ReadSet 1) gives 2
     ∷ after (deciding ⟨ Snapshot 1 ≔ 70 ⟩) 7 1 0 0 (Snapshot 1) gives 70
-    -- 3
+    -- number 3
     ∷ refusal bothPrepared 7 0 0 0 gives 3
     ∷ refusal bothPrepared 7 2 0 0 gives 3
     ∷ refusal bothPrepared 7 1 1 0 gives 3
     ∷ refusal bothPrepared 7 1 0 1 gives 3
     ∷ refusal bothPrepared 7 1 0 0 gives 0
-    -- 9: "decide unless all are prepared", those that it writes; "and none decided"; after 3
+    -- number 9: "decide unless all are prepared", those that it writes; "and none decided"; after 3
     ∷ refusal (bothPrepared ⟨ State 0 0 ≔ asked ⟩) 7 1 0 0 gives 9
     ∷ refusal (bothPrepared ⟨ State 0 1 ≔ asked ⟩) 7 1 0 0 gives 9
     ∷ refusal (bothPrepared ⟨ State 0 1 ≔ 0 ⟩) 7 1 0 0 gives 0
@@ -395,13 +395,13 @@ worked =
     ∷ after decidedAt100 8 1 1 0 (CommitTime 0) gives 100
     ∷ after decidedAt100 8 1 1 0 (Held 0 1 0) gives 0
     ∷ after decidedAt100 8 1 1 0 (Entry 0 1 0) gives 0
-    -- 3
+    -- number 3
     ∷ refusal decidedAt100 8 0 1 0 gives 3
     ∷ refusal decidedAt100 8 2 1 0 gives 3
     ∷ refusal decidedAt100 8 1 2 0 gives 3
     ∷ refusal decidedAt100 8 1 1 1 gives 3
     ∷ refusal decidedAt100 8 1 1 0 gives 0
-    -- 9: "commit unless decided and still prepared": not decided, not written, waiting, installed; after 3
+    -- number 9: "commit unless decided and still prepared": not decided, not written, waiting, installed; after 3
     ∷ refusal bothPrepared 8 1 0 0 gives 9
     ∷ refusal (decidedAt100 ⟨ State 0 1 ≔ 0 ⟩) 8 1 1 0 gives 9
     ∷ refusal waitingAt1 8 1 1 0 gives 9
@@ -451,7 +451,6 @@ worked =
     ∷ after waitingAt1 9 0 1 0 (Waiting 0 1 1) gives 0
     ∷ after waitingAt1 9 0 1 0 (Waiting 1 0 0) gives 0
     ∷ after waitingAt1 9 0 1 0 (ClockSent 1 1 0 0) gives 100
-    ∷ after (bothPrepared ⟨ Hybrid 0 1 ≔ 90 ⟩) 9 0 1 0 (ClockSent 1 1 0 0) gives 89
     ∷ after waitingAt1 9 0 1 0 (Carries 1 1 0 0) gives 1
     ∷ after (waitingAt1 ⟨ Transactions ≔ 2 ⟩ ⟨ State 1 1 ≔ waiting ⟩ ⟨ CommitTime 1 ≔ 99 ⟩) 9 0 1 0 (Carries 1 1 0 0) gives 3
     ∷ after waitingAt1 9 0 1 0 (First 1 1 0) gives 0
@@ -467,6 +466,7 @@ worked =
     ∷ after (waitingAt1 ⟨ Entry 0 1 0 ≔ 100 ⟩) 9 0 1 0 (Waiting 1 1 0) gives 1
     -- prepared at 90, nothing to install: the clock comes to 89, and stays there
     ∷ after bothPrepared 9 0 1 0 (Waiting 1 1 0) gives 1
+    ∷ after (bothPrepared ⟨ Hybrid 0 1 ≔ 90 ⟩) 9 0 1 0 (ClockSent 1 1 0 0) gives 89
     ∷ after (bothPrepared ⟨ Entry 0 1 0 ≔ 89 ⟩) 9 0 1 0 (Waiting 1 1 0) gives 0
     -- "to each other holder": halls 1 and 2, and none of the others' channels
     ∷ after three 9 0 0 0 (Waiting 1 0 0) gives 1
@@ -482,7 +482,7 @@ worked =
     ∷ after (three ⟨ First 1 0 0 ≔ 6 ⟩ ⟨ Waiting 1 0 0 ≔ 2 ⟩) 9 0 0 0 (ClockSent 1 0 0 0) gives 100
     ∷ after (three ⟨ First 1 0 0 ≔ 6 ⟩ ⟨ Waiting 1 0 0 ≔ 2 ⟩) 9 0 0 0 (ClockSent 1 0 0 7) gives 0
     ∷ after (three ⟨ First 1 0 0 ≔ 6 ⟩ ⟨ Waiting 1 0 0 ≔ 2 ⟩) 9 0 0 0 (Waiting 1 0 0) gives 3
-    -- 3: a server that is not there, an unused number
+    -- number 3: a server that is not there, an unused number
     ∷ refusal waitingAt1 9 1 0 0 gives 3
     ∷ refusal waitingAt1 9 2 1 0 gives 3
     ∷ refusal waitingAt1 9 0 1 1 gives 3
@@ -525,7 +525,7 @@ worked =
     ∷ after sent 10 1 0 1 (Hybrid 1 1) gives 0
     ∷ after sent 10 1 0 1 (State 0 0) gives prepared
     ∷ after (sent ⟨ Held 1 1 5 ≔ 1 ⟩) 10 1 0 1 (Held 1 1 5) gives 1
-    -- 3: halls that do not hold the partition; halls and partitions that are not there; "deliver from a hall to itself"
+    -- number 3: halls that do not hold the partition; halls and partitions that are not there; "deliver from a hall to itself"
     ∷ refusal (sent ⟨ Waiting 0 0 1 ≔ 1 ⟩) 10 0 1 0 gives 3
     ∷ refusal (sent ⟨ Waiting 1 0 0 ≔ 1 ⟩) 10 0 0 1 gives 3
     ∷ refusal (sent ⟨ Waiting 1 1 2 ≔ 1 ⟩) 10 1 2 1 gives 3
@@ -533,7 +533,7 @@ worked =
     ∷ refusal (sent ⟨ Waiting 1 2 0 ≔ 1 ⟩) 10 2 0 1 gives 3
     ∷ refusal (sent ⟨ Waiting 1 1 1 ≔ 1 ⟩) 10 1 1 1 gives 3
     ∷ refusal halls 10 1 1 1 gives 3
-    -- 11: "deliver from an empty channel", whatever waits in the other direction; after 3
+    -- number 11: "deliver from an empty channel", whatever waits in the other direction; after 3
     ∷ refusal halls 10 1 0 1 gives 11
     ∷ refusal sent 10 1 0 1 gives 0
     ∷ refusal sent 10 1 1 0 gives 11
@@ -549,7 +549,7 @@ worked =
     ∷ after (halls ⟨ Entry 1 1 0 ≔ 100 ⟩ ⟨ Entry 1 1 1 ≔ 120 ⟩ ⟨ Note 1 1 ≔ 150 ⟩) 11 1 1 0 (Note 1 1) gives 100
     ∷ after (halls ⟨ Entry 1 1 0 ≔ 100 ⟩ ⟨ Entry 1 1 1 ≔ 120 ⟩) 11 1 1 0 (Note 0 1) gives 0
     ∷ after (halls ⟨ Entry 1 1 0 ≔ 100 ⟩ ⟨ Entry 1 1 1 ≔ 120 ⟩) 11 1 1 0 (Stable 1 1) gives 0
-    -- 3
+    -- number 3
     ∷ refusal halls 11 1 0 0 gives 3
     ∷ refusal halls 11 0 0 1 gives 3
     ∷ refusal halls 11 0 0 0 gives 0
@@ -566,7 +566,7 @@ worked =
     -- "From may equal to."
     ∷ refusal halls 12 1 1 0 gives 0
     ∷ after (halls ⟨ Note 1 1 ≔ 100 ⟩) 12 1 1 0 (Shared 1 1) gives 100
-    -- 3
+    -- number 3
     ∷ refusal halls 12 2 0 0 gives 3
     ∷ refusal halls 12 0 2 0 gives 3
     ∷ refusal halls 12 0 1 1 gives 3
@@ -582,7 +582,7 @@ worked =
     ∷ after (halls ⟨ Shared 1 0 ≔ 70 ⟩ ⟨ Shared 1 1 ≔ 100 ⟩ ⟨ Stable 1 1 ≔ 80 ⟩) 13 1 1 0 (Stable 1 1) gives 80
     ∷ after (halls ⟨ Shared 0 0 ≔ 70 ⟩ ⟨ Shared 0 1 ≔ 100 ⟩) 13 0 0 0 (Stable 0 1) gives 0
     ∷ after (halls ⟨ Shared 0 0 ≔ 70 ⟩ ⟨ Shared 0 1 ≔ 100 ⟩) 13 0 0 0 (Snapshot 0) gives 0
-    -- 3
+    -- number 3
     ∷ refusal halls 13 1 0 0 gives 3
     ∷ refusal halls 13 1 1 1 gives 3
     ∷ refusal halls 13 1 1 0 gives 0
