@@ -15,6 +15,7 @@ use room::HYBRID;
 use room::READING;
 use times::larger;
 use times::next;
+use times::timestamp_of;
 
 pub fn take(room: &[u64], h: usize, p: usize) -> Clock
     requires { ⌜ (length (now room) ≡ size) × (h < hallsMax) × (p < partitionsMax) ⌝ }
@@ -43,7 +44,7 @@ pub fn proposed(mut c: Clock, last: Timestamp, s: Timestamp) -> Clock
 {
     let hybrid = c.hybrid;
     let x = larger(next(hybrid), larger(next(last), next(s)));
-    c.hybrid = larger(Timestamp(c.reading.0), x);
+    c.hybrid = larger(timestamp_of(c.reading), x);
     c
 }
 

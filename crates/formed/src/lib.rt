@@ -12,6 +12,7 @@ ghost use Rattle.book.specs.WellFormed.{pairsPrepared, timeBound, channelOk, se
 ghost use Rattle.room.specs.Layout.{size, Within, store};
 ghost use Rattle.formed.specs.Blocks.{hasBit, maskOk, partitionOk, homeOk, preparedAt, clockOk, entryOk, hallOk, cachedOk, highestState, latestCommit, sharesOk, keptOk};
 use book::READING_MAX;
+use book::Reading;
 use book::Timestamp;
 use room::BY;
 use room::CACHE_TIME;
@@ -42,6 +43,7 @@ use room::STATUS;
 use room::TRANSACTIONS;
 use room::WAITING;
 use room::WRITE_SET;
+use times::timestamp_of;
 
 // A set of the 32 keys is below it.
 const KEY_SETS: u64 = 4294967296;
@@ -226,7 +228,8 @@ fn time_bound(room: &[u64]) -> Timestamp
     requires { ⌜ length (now room) ≡ size ⌝ }
     ensures { λ r. ⌜ r .0 ≡ timeBound (store (now (room .entry))) ⌝ }
 {
-    Timestamp(READING_MAX + pairs_prepared(room))
+    let latest = timestamp_of(Reading(READING_MAX));
+    Timestamp(latest.0 + pairs_prepared(room))
 }
 
 // Whether a cell's timestamp is at most `latest`.

@@ -6,6 +6,7 @@ use book::Clock;
 use book::Reading;
 use book::Timestamp;
 use times::larger;
+use times::timestamp_of;
 
 fn ticked(mut c: Clock, x: Reading) -> Clock
     ensures { λ r. ⌜ r ≡ tickedClock c x ⌝ }
@@ -19,7 +20,7 @@ fn committed(mut c: Clock, time: Timestamp) -> Clock
     ensures { λ r. ⌜ r ≡ committedClock c time ⌝ }
 {
     let hybrid = c.hybrid;
-    c.hybrid = larger(hybrid, larger(time, Timestamp(c.reading.0)));
+    c.hybrid = larger(hybrid, larger(time, timestamp_of(c.reading)));
     c
 }
 

@@ -29,7 +29,6 @@ use room::STATE;
 use room::WAITING;
 use times::Lowest;
 use times::join;
-use times::larger;
 use times::none;
 use vectors::updated;
 use vectors::vector_of;
@@ -72,8 +71,7 @@ fn installed(mut c: Clock, l: Lowest) -> Clock
         c.version = version;
         c
     } else {
-        let hybrid = c.hybrid;
-        let present = larger(Timestamp(c.reading.0), hybrid);
+        let present = times::present(c.reading, c.hybrid);
         c.hybrid = present;
         c.version = present;
         c

@@ -47,7 +47,7 @@ fn present_at(room: &[u64], h: usize, p: usize) -> Timestamp
 {
     let reading = Reading(room::get(room, READING, h, p, 0, 0));
     let hybrid = Timestamp(room::get(room, HYBRID, h, p, 0, 0));
-    larger(Timestamp(reading.0), hybrid)
+    times::present(reading, hybrid)
 }
 
 // "minus S". The larger of the present and S is not below S, whatever the room has, so the difference cannot wrap.

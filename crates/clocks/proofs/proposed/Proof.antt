@@ -10,4 +10,5 @@ proposed-spec = tie.close (tie.spec
     (λ c κs. search needs)
     (λ c κs. search needs)
     (λ c κs. search needs)
-    (λ c. rw (c .larger3 .ensures, c .before .larger2 .ensures, c .before .before .larger .ensures, c .before .before .before .next3 .ensures, c .before .before .before .before .next2 .ensures, c .before .before .before .before .before .next .ensures)))
+    (λ c κs. search needs)
+    (λ c. rw (c .larger3 .ensures, c .before .timestamp-of .ensures, c .before .before .larger2 .ensures, c .before .before .before .larger .ensures, c .before .before .before .before .next3 .ensures, c .before .before .before .before .before .next2 .ensures, c .before .before .before .before .before .before .next .ensures)))

@@ -11,5 +11,6 @@ time-bound-spec =
     tie.close
     (tie.spec
     (λ c κs. search needs)
-    (λ c. omega (arith, pairs-le placesMax (store (c .before .before .args .room .now))))
-    (λ c. rw (c .pairs-prepared .ensures)))
+    (λ c κs. search needs)
+    (λ c. omega (arith, pairs-le placesMax (store (c .before .before .before .before .args .room .now))))
+    (λ c. rw (c .before .pairs-prepared .ensures, c .before .before .timestamp-of .ensures)))

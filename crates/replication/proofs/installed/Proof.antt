@@ -10,4 +10,4 @@ installed-spec =
     (λ c. omega (arith, c .before .before .pre (c .before .if1 .taken)))
     (λ c κs. search needs)
     (λ c. rw (c .before .if1 .taken))
-    (λ c. rw (c .before .before .if1 .left, c .larger .ensures)))
+    (λ c. rw (c .before .if1 .left, c .present .ensures)))
