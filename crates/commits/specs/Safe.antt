@@ -1,12 +1,7 @@
 -- What each step asks of the store: what keeps its places in the room and its sums in a word.
 use Prim.Native.Nat.{ℕ, _≤_, _<_, _^_}
-use Rattle.book.specs.Sizes.{hallsMax, sessionsMax, keys, placesMax, timeMax}
+use Rattle.book.specs.Sizes.{hallsMax, sessionsMax, keys, timeMax}
 use Rattle.book.specs.Cells.{Store, Halls, Hybrid, Snapshot, LastCommit, By, From, KeySet}
-
--- transaction number n may be there
-pub record Numbered (n : ℕ) : Type 0 where
-  pub first : 1 ≤ n
-  pub last : n ≤ placesMax
 
 -- the transaction at place t comes from one of the halls
 pub record Coordinated (σ : Store) (t : ℕ) : Type 0 where

@@ -7,9 +7,10 @@ ghost use Rattle.book.specs.Cells.{By, KeySet};
 ghost use Rattle.book.specs.Servers.{placeOf};
 ghost use Rattle.book.specs.CommitSteps.{prepare as preparedStore, proposal, decide as decidedStore, decision, commit as committedStore, commitment};
 ghost use Rattle.room.specs.Layout.{size, store};
+ghost use Rattle.servers.specs.Numbers.{Numbered};
 ghost use Rattle.commits.specs.Proposals.{proposedFor, laterProposal};
 ghost use Rattle.commits.specs.Cache.{keyCached, cached};
-ghost use Rattle.commits.specs.Safe.{Numbered, Coordinated, Timely, Writing};
+ghost use Rattle.commits.specs.Safe.{Coordinated, Timely, Writing};
 use book::Answer;
 use book::Clock;
 use book::Timestamp;
@@ -30,6 +31,7 @@ use room::STATE;
 use room::STATUS;
 use room::VALUE;
 use room::WRITE_SET;
+use servers::place_of;
 use servers::writing_hall;
 use times::larger;
 
@@ -38,13 +40,6 @@ const IDLE: u64 = 0;
 const PREPARED: u64 = 2;
 
 const WAITING: u64 = 3;
-
-pub fn place_of(n: TxNumber) -> usize
-    requires { ⌜ Numbered (n .0) ⌝ }
-    ensures { λ r. ⌜ (r ≡ placeOf (n .0)) × (r < placesMax) ⌝ }
-{
-    (n.0 - 1) as usize
-}
 
 fn session_of(room: &[u64], t: usize) -> usize
     requires { ⌜ (length (now room) ≡ size) × (t < placesMax) × (store (now room) (By t) < sessionsMax) ⌝ }

@@ -1,5 +1,5 @@
 -- What the ladders ask of a store: its counts are in range, so that what is there has a cell.
-use Prim.Native.Nat.{ℕ, _-_, _≤_, _<_}
+use Prim.Native.Nat.{ℕ, _≤_, _<_}
 use mathlib.Core.Bool.{true}
 use mathlib.Core.Path.{_≡_}
 use native.Mathlib.Nat.{le-trans}
@@ -11,6 +11,7 @@ use Rattle.book.specs.Cells.{Store, Halls, Partitions, Sessions, Transactions}
 use Rattle.book.specs.Cases.{and-true}
 use Rattle.book.specs.Servers.{holds, holds-hall, holds-partition}
 use Rattle.book.specs.Refusals.{sessionThere, transactionThere}
+use Rattle.servers.specs.Numbers.{Numbered}
 
 pub record Sized (σ : Store) : Type 0 where
   pub halls : σ Halls ≤ hallsMax
@@ -31,10 +32,7 @@ session-in σ S s e =
     omega arith
 
 -- and a transaction number that is there has a place
-pub transaction-in : (σ : Store) → Sized σ → (n : ℕ) → transactionThere σ n ≡ true → (1 ≤ n) × (n - 1 < placesMax)
+pub transaction-in : (σ : Store) → Sized σ → (n : ℕ) → transactionThere σ n ≡ true → Numbered n
 transaction-in σ S n e =
     let a = and-true (leb 1 n) _ e in
-    let x = leb-true 1 n (a .0) in
-    let y = leb-true n (σ Transactions) (a .1) in
-    let u = S .transactions in
-    (omega arith, omega arith)
+    record { first = leb-true 1 n (a .0); last = le-trans (leb-true n (σ Transactions) (a .1)) (S .transactions) }

@@ -15,6 +15,8 @@ ghost use Rattle.replication.specs.Safe.{Coordinated, Timely};
 ghost use Rattle.ladders.specs.Sized.{Sized};
 ghost use Rattle.ladders.specs.Full.{fullTo};
 use book::READING_MAX;
+use book::Reading;
+use book::TxNumber;
 use book::VALUE_MAX;
 use room::COMMIT_TIME;
 use room::HALLS;
@@ -26,6 +28,7 @@ use room::STATUS;
 use room::TRANSACTIONS;
 use room::WAITING;
 use room::WRITE_SET;
+use servers::place_of;
 
 fn when(a: bool, n: u64, rest: u64) -> u64
     ensures { λ r. ⌜ r ≡ cond a n rest ⌝ }
@@ -52,11 +55,11 @@ fn session_there(room: &[u64], s: u64) -> bool
     s < room::get(room, SESSIONS, 0, 0, 0, 0)
 }
 
-fn transaction_there(room: &[u64], n: u64) -> bool
+fn transaction_there(room: &[u64], n: TxNumber) -> bool
     requires { ⌜ length (now room) ≡ size ⌝ }
-    ensures { λ r. ⌜ r ≡ transactionThere (store (now (room .entry))) n ⌝ }
+    ensures { λ r. ⌜ r ≡ transactionThere (store (now (room .entry))) (n .0) ⌝ }
 {
-    both(1 <= n, n <= room::get(room, TRANSACTIONS, 0, 0, 0, 0))
+    both(1 <= n.0, n.0 <= room::get(room, TRANSACTIONS, 0, 0, 0, 0))
 }
 
 // a session, and two numbers that are not used
@@ -75,9 +78,9 @@ fn server_there(room: &[u64], h: u64, p: u64) -> bool
 }
 
 // a transaction's pair, and a number that is not used
-fn pair_there(room: &[u64], n: u64, p: u64, z: u64) -> bool
+fn pair_there(room: &[u64], n: TxNumber, p: u64, z: u64) -> bool
     requires { ⌜ length (now room) ≡ size ⌝ }
-    ensures { λ r. ⌜ r ≡ (transactionThere (store (now (room .entry))) n && (ltb p (store (now (room .entry)) Partitions) && unused z)) ⌝ }
+    ensures { λ r. ⌜ r ≡ (transactionThere (store (now (room .entry))) (n .0) && (ltb p (store (now (room .entry)) Partitions) && unused z)) ⌝ }
 {
     both(
         transaction_there(room, n),
@@ -85,15 +88,15 @@ fn pair_there(room: &[u64], n: u64, p: u64, z: u64) -> bool
     )
 }
 
-pub fn tick(room: &[u64], h: u64, p: u64, x: u64) -> u64
+pub fn tick(room: &[u64], h: u64, p: u64, x: Reading) -> u64
     requires { ⌜ (length (now room) ≡ size) × Sized (store (now room)) ⌝ }
-    ensures { λ r. ⌜ r ≡ tickRefusal (store (now (room .entry))) h p x ⌝ }
+    ensures { λ r. ⌜ r ≡ tickRefusal (store (now (room .entry))) h p (x .0) ⌝ }
 {
     if !server_there(room, h, p) {
         return 3;
     }
     let last = room::get(room, READING, h as usize, p as usize, 0, 0);
-    when(x > READING_MAX, 4, when(x < last, 5, 0))
+    when(x.0 > READING_MAX, 4, when(x.0 < last, 5, 0))
 }
 
 pub fn start(room: &[u64], s: u64, y: u64, z: u64) -> u64
@@ -140,40 +143,38 @@ pub fn end(room: &[u64], s: u64, y: u64, z: u64) -> u64
     when(status != 1, 7, when(both(wrote != 0, 64 <= asked), 8, 0))
 }
 
-pub fn prepare(room: &[u64], n: u64, p: u64, z: u64) -> u64
+pub fn prepare(room: &[u64], n: TxNumber, p: u64, z: u64) -> u64
     requires { ⌜ (length (now room) ≡ size) × Sized (store (now room)) ⌝ }
-    ensures { λ r. ⌜ r ≡ prepareRefusal (store (now (room .entry))) n p z ⌝ }
+    ensures { λ r. ⌜ r ≡ prepareRefusal (store (now (room .entry))) (n .0) p z ⌝ }
 {
     if !pair_there(room, n, p, z) {
         return 3;
     }
-    when(
-        room::get(room, STATE, (n - 1) as usize, p as usize, 0, 0) != 1,
-        9,
-        0,
-    )
+    let t = place_of(n);
+    when(room::get(room, STATE, t, p as usize, 0, 0) != 1, 9, 0)
 }
 
-pub fn commit(room: &[u64], n: u64, p: u64, z: u64) -> u64
+pub fn commit(room: &[u64], n: TxNumber, p: u64, z: u64) -> u64
     requires { ⌜ (length (now room) ≡ size) × Sized (store (now room)) ⌝ }
-    ensures { λ r. ⌜ r ≡ commitRefusal (store (now (room .entry))) n p z ⌝ }
+    ensures { λ r. ⌜ r ≡ commitRefusal (store (now (room .entry))) (n .0) p z ⌝ }
 {
     if !pair_there(room, n, p, z) {
         return 3;
     }
-    let time = room::get(room, COMMIT_TIME, (n - 1) as usize, 0, 0, 0);
-    let state = room::get(room, STATE, (n - 1) as usize, p as usize, 0, 0);
+    let t = place_of(n);
+    let time = room::get(room, COMMIT_TIME, t, 0, 0, 0);
+    let state = room::get(room, STATE, t, p as usize, 0, 0);
     when(!both(0 < time, state == 2), 9, 0)
 }
 
-pub fn decide(room: &[u64], n: u64, y: u64, z: u64) -> u64
+pub fn decide(room: &[u64], n: TxNumber, y: u64, z: u64) -> u64
     requires { ⌜ (length (now room) ≡ size) × Sized (store (now room)) ⌝ }
-    ensures { λ r. ⌜ r ≡ decideRefusal (store (now (room .entry))) n y z ⌝ }
+    ensures { λ r. ⌜ r ≡ decideRefusal (store (now (room .entry))) (n .0) y z ⌝ }
 {
     if !both(transaction_there(room, n), both(y == 0, z == 0)) {
         return 3;
     }
-    let t = (n - 1) as usize;
+    let t = place_of(n);
     let time = room::get(room, COMMIT_TIME, t, 0, 0, 0);
     when(!both(all_prepared(room, t), !(0 < time)), 9, 0)
 }
@@ -302,14 +303,14 @@ pub fn refusal(room: &[u64], code: u64, a: u64, b: u64, c: u64) -> u64
     ensures { λ r. ⌜ r ≡ refusalOf (store (now (room .entry))) code a b c ⌝ }
 {
     match code {
-        1 => tick(room, a, b, c),
+        1 => tick(room, a, b, Reading(c)),
         2 => start(room, a, b, c),
         3 => read(room, a, b, c),
         4 => write(room, a, b, c),
         5 => end(room, a, b, c),
-        6 => prepare(room, a, b, c),
-        7 => decide(room, a, b, c),
-        8 => commit(room, a, b, c),
+        6 => prepare(room, TxNumber(a), b, c),
+        7 => decide(room, TxNumber(a), b, c),
+        8 => commit(room, TxNumber(a), b, c),
         9 => install(room, a, b, c),
         10 => deliver(room, a, b, c),
         11 => server(room, a, b, c),

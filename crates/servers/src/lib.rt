@@ -1,4 +1,4 @@
-// Which servers there are, and which of them a transaction writes at.
+// Which servers there are, where a transaction stands, and which of the servers it writes at.
 ghost use mathlib.Core.Path.{_≡_};
 ghost use mathlib.Core.Bool.{cond};
 ghost use Prim.Native.Nat.{_<_, _≤_};
@@ -6,9 +6,11 @@ ghost use lib.ListN.{length};
 ghost use Rattle.book.specs.Sizes.{hallsMax, placesMax};
 ghost use Rattle.book.specs.Cells.{Halls, From};
 ghost use Rattle.book.specs.Sets.{include, setOf};
-ghost use Rattle.book.specs.Servers.{holds as isServer, writer};
+ghost use Rattle.book.specs.Servers.{holds as isServer, placeOf, writer};
 ghost use Rattle.room.specs.Layout.{size, store};
 ghost use Rattle.servers.specs.Turns.{hallAfter};
+ghost use Rattle.servers.specs.Numbers.{Numbered};
+use book::TxNumber;
 use room::FROM;
 use room::HALLS;
 use room::MASK;
@@ -50,6 +52,14 @@ pub fn holders(room: &[u64], p: usize) -> u64
         m = with_holder(room, p, h, m);
     }
     m
+}
+
+// A transaction number becomes a place here and nowhere else.
+pub fn place_of(n: TxNumber) -> usize
+    requires { ⌜ Numbered (n .0) ⌝ }
+    ensures { λ r. ⌜ (r ≡ placeOf (n .0)) × (r < placesMax) ⌝ }
+{
+    (n.0 - 1) as usize
 }
 
 fn hall_after(halls: usize, h: usize) -> usize

@@ -1,10 +1,10 @@
 -- What a step may rely on once its ladder has let its numbers through a well formed store.
-use Prim.Native.Nat.{ℕ, _≤_, _<_, _-_}
+use Prim.Native.Nat.{ℕ, _≤_, _<_}
 use mathlib.Core.Bool.{Bool, true, false, cond, _&&_, not}
 use mathlib.Core.Path.{_≡_}
 use native.Mathlib.Omega.{arith}
 use lib.Dec.{eqb, ltb, leb}
-use borrow.Author.Tests.{ltb-true, leb-true, eqb-false}
+use borrow.Author.Tests.{ltb-true, eqb-false}
 use Rattle.book.specs.Sizes.{hallsMax, partitionsMax, sessionsMax, keys, placesMax, slots, timeMax}
 use Rattle.book.specs.Cells.{Store, Halls, Partitions, Sessions, Transactions, Status, running, HomeHall, HomePartition, By, First, Waiting}
 use Rattle.book.specs.Cases.{and-true, passed}
@@ -17,10 +17,11 @@ use Rattle.theorems.specs.Tally.{prepared-most}
 use Rattle.theorems.specs.Setup.{Setup, good-setup, server-small}
 use Rattle.theorems.specs.Formed.{Formed, Times, formed}
 use Rattle.theorems.specs.KeptSteps.{times-le}
-use Rattle.ladders.specs.Sized.{Sized, session-in}
+use Rattle.ladders.specs.Sized.{Sized, session-in, transaction-in}
 use Rattle.views.specs.Partitions.{Parted}
 use Rattle.sessions.specs.Starting.{Homed}
-use Rattle.commits.specs.Safe.{Numbered, Coordinated, Timely, Writing}
+use Rattle.servers.specs.Numbers.{Numbered}
+use Rattle.commits.specs.Safe.{Coordinated, Timely, Writing}
 use Rattle.replication.specs.Safe.{Coordinated as AllCoordinated, Channel, Timely as AllTimely}
 
 module _ (σ : Store) (w : wellFormed σ ≡ true) where
@@ -46,12 +47,7 @@ module _ (σ : Store) (w : wellFormed σ ≡ true) where
   session s b r e = session-in σ sized s (and-true (sessionThere σ s) b (asked-for (sessionThere σ s && b) 3 r (omega arith) e .0) .0)
 
   number : (n : ℕ) (b : Bool) (r : ℕ) → cond (not (transactionThere σ n && b)) 3 r ≡ 0 → Numbered n
-  number n b r e =
-      let a = and-true (leb 1 n) _ (and-true (transactionThere σ n) b (asked-for (transactionThere σ n && b) 3 r (omega arith) e .0) .0) in
-      let x = leb-true 1 n (a .0) in
-      let y = leb-true n (σ Transactions) (a .1) in
-      let m = facts .places in
-      record { first = x; last = omega arith }
+  number n b r e = transaction-in σ sized n (and-true (transactionThere σ n) b (asked-for (transactionThere σ n && b) 3 r (omega arith) e .0) .0)
 
   partition : (n p : ℕ) (b : Bool) (r : ℕ) → cond (not (transactionThere σ n && (ltb p (σ Partitions) && b))) 3 r ≡ 0 → p < partitionsMax
   partition n p b r e =

@@ -6,4 +6,4 @@ pub transaction-there-spec : {M : Type 1} → statement M
 transaction-there-spec = tie.close (tie.spec
     (λ c κs. search needs)
     (λ c κs. search needs)
-    (λ c. rw (c .both .ensures, c .before .get .ensures)))
+    (λ c. rw (c .both .ensures, c .before .before .get .ensures)))
