@@ -4,9 +4,9 @@ use native.Mathlib.Omega.{arith}
 use borrow.Author.Needs.{needs}
 use borrow.Author.Tests.{eq-eqb, ne-eqb}
 use lib.ListN.{length, drop}
-use Rattle.runs.specs.Compare.{compared, at-both, at-first, at-second, past-both}
-use Rattle.runs.proofs.compare.Statement.{statement}
-use Rattle.runs.proofs.compare.Tie as tie
+use Rattle.tally.specs.Compare.{compared, at-both, at-first, at-second, past-both}
+use Rattle.tally.proofs.compare.Statement.{statement}
+use Rattle.tally.proofs.compare.Tie as tie
 
 abbrev Inv-loop : tie.InvT-loop
 Inv-loop a b i₀ i = compared (drop i a) (drop i b) i ≡ compared a b 0

@@ -7,9 +7,9 @@ use native.Mathlib.Numerals.{add-one}
 use lib.Dec.{eqb}
 use lib.ListN.{length, getD, drop, drop-of-length-le}
 use lib.Seq.{drop-cons}
-use borrow.Author.Tests.{eqb-true}
-use Rattle.runs.specs.declared.Compared.{Compared}
-use Rattle.runs.specs.declared.Compared.the-variants.{Same, At}
+use borrow.Author.Tests.{eqb-true, eq-eqb}
+use Rattle.tally.specs.declared.Compared.{Compared}
+use Rattle.tally.specs.declared.Compared.the-variants.{Same, At}
 
 -- the first offset where they are not the same, counted from k on
 unfoldable pub compared : List ℕ → List ℕ → ℕ → Compared
@@ -38,7 +38,7 @@ module _ (xs ys : List ℕ) (i : ℕ) where
   unfolding compared
   past-both h l = rw (drop-of-length-le xs h, drop-of-length-le ys l)
 
-abbrev isSame : Compared → Bool
+abbrev pub isSame : Compared → Bool
 isSame Same = true
 isSame (At k) = false
 
@@ -55,3 +55,9 @@ same-text (x ∷ xs) [] k e = absurd (false≢true (ap isSame e))
 same-text (x ∷ xs) (y ∷ ys) k e =
     let h = at-least (eqb x y) (compared xs ys (k + 1)) k e in
     λ i. eqb-true x y (h .0) i ∷ same-text xs ys (k + 1) (h .1) i
+
+-- and one text agrees with itself
+pub text-same : (xs : List ℕ) (k : ℕ) → compared xs xs k ≡ Same
+unfolding compared
+text-same [] k = refl
+text-same (x ∷ xs) k = rw (eq-eqb x x refl) (text-same xs (k + 1))
