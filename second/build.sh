@@ -3,7 +3,10 @@ work=${TMPDIR:-/tmp}/second.$$
 (umask 077 && mkdir "$work") || exit 1
 trap 'rm -rf "$work"' EXIT
 trap 'exit 1' HUP INT TERM
-for program in second gen; do
-    "${CC:-cc}" -std=c11 -O2 -Wall -Wextra -Werror -o "$work/$program" "$program.c" store.c ||
-        { echo "second: $program does not build"; exit 1; }
-done
+# compile PROGRAM.c FILE.c ..
+compile() {
+    "${CC:-cc}" -std=c11 -O2 -Wall -Wextra -Werror -o "$work/${1%.c}" "$@" store.c ||
+        { echo "second: ${1%.c} does not build"; exit 1; }
+}
+compile second.c script.c
+compile gen.c

@@ -16,7 +16,7 @@ bool holds(const struct Store *store, u64 hall, u64 partition) {
 }
 
 /* "key k in partition k mod N" */
-static u64 partition_of(const struct Store *store, u64 key) {
+u64 partition_of(const struct Store *store, u64 key) {
     return key % store->partitions;
 }
 
@@ -27,7 +27,7 @@ static struct Transaction *transaction(struct Store *store, u64 number) {
 
 /* "The writing hall for a partition is the coordinator's hall if it holds it, else the first
  * holder found counting up from it and past the last back to 0." Some hall is a holder. */
-static u64 writing_hall(const struct Store *store, u64 coordinator, u64 partition) {
+u64 writing_hall(const struct Store *store, u64 coordinator, u64 partition) {
     u64 hall = coordinator;
     while (!holds(store, hall, partition))
         hall = hall + 1 == store->halls ? 0 : hall + 1;
@@ -37,7 +37,7 @@ static u64 writing_hall(const struct Store *store, u64 coordinator, u64 partitio
 /* ---- Entries of write set, read set and cache ---- */
 
 /* "write set, read set and cache", looked through for a key */
-static struct Entry *find(struct Entries *entries, u64 key) {
+static const struct Entry *find(const struct Entries *entries, u64 key) {
     for (size_t i = 0; i < entries->count; i++)
         if (entries->list[i].key == key)
             return &entries->list[i];
@@ -46,10 +46,9 @@ static struct Entry *find(struct Entries *entries, u64 key) {
 
 /* "over an older entry", "Replaces an earlier value" */
 static void put(struct Entries *entries, u64 key, u64 value, u64 time) {
-    struct Entry *entry = find(entries, key);
-    if (entry == NULL)
-        entry = &entries->list[entries->count++];
-    *entry = (struct Entry){key, value, time};
+    const struct Entry *older = find(entries, key);
+    size_t place = older == NULL ? entries->count++ : (size_t)(older - entries->list);
+    entries->list[place] = (struct Entry){key, value, time};
 }
 
 /* "cache entries with time at or below S go" */
@@ -249,7 +248,7 @@ static struct Message next_message(const struct Store *store, u64 hall, u64 part
 
 /* "An install that installs nothing and leaves the version clock where it was shall send no
  * message" */
-static bool quiet(const struct Store *store, u64 hall, u64 partition) {
+bool quiet(const struct Store *store, u64 hall, u64 partition) {
     struct Message message = next_message(store, hall, partition);
     return message.count == 0 && message.clock == store->server[hall][partition].vector[hall];
 }
@@ -322,8 +321,8 @@ static struct Answer start(struct Store *store, u64 session) {
 }
 
 /* "Looks in write set, read set, cache" */
-static struct Entry *look_in_session(struct Session *s, u64 key) {
-    struct Entry *found = find(&s->write_set, key);
+const struct Entry *look_in_session(const struct Session *s, u64 key) {
+    const struct Entry *found = find(&s->write_set, key);
     if (found == NULL)
         found = find(&s->read_set, key);
     if (found == NULL)

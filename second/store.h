@@ -144,4 +144,14 @@ unsigned refusal(const struct Store *store, u64 code, u64 a, u64 b, u64 c);
 /* Does the hall hold the partition, so that there is such a server? */
 bool holds(const struct Store *store, u64 hall, u64 partition);
 
+/* The partition of a key, and the hall that writes a partition for a coordinator's hall. */
+u64 partition_of(const struct Store *store, u64 key);
+u64 writing_hall(const struct Store *store, u64 coordinator, u64 partition);
+
+/* What the session itself would answer a read with, or NULL. */
+const struct Entry *look_in_session(const struct Session *session, u64 key);
+
+/* Would an install at this server, if taken, send no message? */
+bool quiet(const struct Store *store, u64 hall, u64 partition);
+
 #endif
