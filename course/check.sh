@@ -4,6 +4,8 @@
 LC_ALL=C
 export LC_ALL
 CDPATH='' cd -- "$(dirname -- "$0")" || exit 1
+here=.
+. ./build.sh
 data=../crates/runs/data
 
 fails() {
@@ -18,7 +20,7 @@ for folder in [0-9]*/; do
     done
     cmp "$lesson/script" "$data/course-$lesson.script" || fails "$lesson: runs has another script"
     cmp "$lesson/printout" "$data/course-$lesson.expect" || fails "$lesson: runs has another printout"
-    ./draw "$lesson/script" "$lesson/printout" | cmp - "$lesson/picture.svg" || fails "$lesson: the picture is not of this run"
+    "$work/draw" "$lesson/script" "$lesson/printout" | cmp - "$lesson/picture.svg" || fails "$lesson: the picture is not of this run"
     count=$((count + 1))
 done
 [ "$(grep -c '^course-' "$data/list")" -eq "$count" ] || fails "runs has other lessons"

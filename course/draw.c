@@ -1,141 +1,72 @@
-/* Draws a run as one SVG: draw SCRIPT PRINTOUT. Steps go down, one to a row; halls and servers are lanes. The printout decides
- * what happened; of the store only so much is followed as says where a step stands, which installs are quiet, which message a
- * delivery takes, and which reads a session answers itself. */
+/* Draws a run as one SVG: draw SCRIPT PRINTOUT. Steps go down, one to a row; halls and servers are lanes. The second program's store
+ * runs the script and says where a step stands and what it does; the printout must be that run's. */
+#include "script.h"
+
 #include <inttypes.h>
 #include <stdarg.h>
-#include <stdbool.h>
-#include <stdint.h>
 #include <stdio.h>
 #include <stdlib.h>
 #include <string.h>
 
-typedef uint64_t u64;
-
-enum { HALLS = 4, PARTITIONS = 4, SESSIONS = 16, KEYS = 32, REQUESTS = 64, STEPS = 8000 };
-enum { LANES = HALLS + HALLS * PARTITIONS, MESSAGES = STEPS * (HALLS - 1), NONE = -1 };
-enum { SCRIPT_LIMIT = 65536, PRINTOUT_LIMIT = 1 << 20 };
-enum Code { TICK = 1, START, READ, WRITE, END, PREPARE, DECIDE, COMMIT, INSTALL, DELIVER, REPORT, SHARE, LEARN, MOVE };
-
-/* ---- The two texts ---- */
-
-struct Text {
-    const unsigned char *at, *end;
-};
-
-static struct Text read_file(const char *path, size_t limit) {
-    FILE *file = fopen(path, "rb");
-    unsigned char *bytes = malloc(limit);
-    if (file == NULL || bytes == NULL) {
-        fprintf(stderr, "draw: cannot read %s\n", path);
-        exit(1);
-    }
-    size_t length = fread(bytes, 1, limit, file);
-    fclose(file);
-    return (struct Text){bytes, bytes + length};
-}
-
-/* A number and the space or line feed after it. Where there is none, the text stays where it is. */
-static bool take(struct Text *text, u64 *number) {
-    const unsigned char *at = text->at;
-    *number = 0;
-    for (; at < text->end && *at >= '0' && *at <= '9'; at++) {
-        u64 digit = (u64)(*at - '0');
-        if (*number > (UINT64_MAX - digit) / 10)
-            return false;
-        *number = *number * 10 + digit;
-    }
-    if (at == text->at || at == text->end || (*at != ' ' && *at != '\n'))
-        return false;
-    text->at = at + 1;
-    return true;
-}
-
-static bool take_four(struct Text *text, u64 n[4]) {
-    struct Text ahead = *text;
-    for (int i = 0; i < 4; i++)
-        if (!take(&ahead, &n[i]))
-            return false;
-    *text = ahead;
-    return true;
-}
-
-/* ---- What is followed ---- */
-
-struct Session {
-    u64 hall, partition;
-    u64 snapshot;
-    uint32_t written, read;  /* keys of the write set and the read set */
-    u64 cached[KEYS];        /* commit times of the cache, 0 where there is none */
-};
-
-/* "A transaction keeps the coordinator's hall it ended under": its session may have moved since. */
-struct Transaction {
-    int session; /* NONE where there is no such number yet */
-    u64 hall, partition;
-    uint32_t keys;
-};
-
-/* From the row of an install to the row of its delivery, or to NONE. */
-struct Message {
-    int from, to, sent, taken, next;
-    bool carries;
-};
+enum { LANES = HALLS + HALLS * PARTITIONS, ARROWS = STEP_LIMIT * (HALLS - 1), NONE = -1 };
 
 struct Row {
-    u64 code, refusal;
-    int lane, asker;     /* where it happens, and the lane it is asked from; NONE where it has no place */
-    bool sets_stable;
-    u64 stable;
-    u64 mover; /* the session, where one moves */
+    u64 code;
+    unsigned refusal;
+    int lane, asker; /* where it happens, and the lane it is asked from; NONE where it has no place */
+    bool own, quiet; /* a read that the session answers itself; an install that sends nothing */
+    u64 stable;      /* the stable time of the lane's server, after the step */
+    u64 mover;       /* the session, where one moves */
     char words[192], label[64];
 };
 
-static u64 halls, partitions, servers, session_count, step_count, masks[HALLS];
-static struct Session sessions[SESSIONS];
-static struct Transaction transactions[REQUESTS + 1];
-static u64 version_clocks[HALLS][PARTITIONS];
-static struct Message messages[MESSAGES];
-static int message_count, oldest[PARTITIONS][HALLS][HALLS], newest[PARTITIONS][HALLS][HALLS];
-static struct Row rows[STEPS];
+/* A message, from the row of its install to the row of its delivery, or to NONE. */
+struct Arrow {
+    int from, to, sent, taken;
+    u64 clock;
+    bool carries;
+};
+
+static struct Store store;
+static struct Row rows[STEP_LIMIT];
 static int row_count;
+static struct Arrow arrows[ARROWS];
+static int arrow_count;
 static char ending[128]; /* why the picture ends before the script does; else empty */
 
+static u64 servers;
 static int lane_count, hall_lane[HALLS], server_lane[HALLS][PARTITIONS];
-static char homes[LANES][96]; /* which sessions begin there */
-static bool moved;            /* did any of them move? */
+static const struct Server *server_at[LANES]; /* NULL in a hall's own lane */
+static int ended_at[REQUESTS + 1];            /* the lane where a transaction's session ended it */
+static char homes[LANES][96];                 /* which sessions begin there */
+static bool moved;                            /* did any of them move? */
 
-static bool holds(u64 hall, u64 partition) {
-    return hall < halls && partition < partitions && (masks[hall] >> partition & 1) == 1;
+/* ---- Lanes ---- */
+
+static int lane_of_hall(u64 hall) { return hall < store.halls ? hall_lane[hall] : NONE; }
+
+static int lane_of(u64 hall, u64 partition) {
+    return holds(&store, hall, partition) ? server_lane[hall][partition] : NONE;
 }
-
-static int lane_of_hall(u64 hall) { return hall < halls ? hall_lane[hall] : NONE; }
-
-static int lane_of(u64 hall, u64 partition) { return holds(hall, partition) ? server_lane[hall][partition] : NONE; }
 
 static int home_of(u64 session) {
-    return session < session_count ? lane_of(sessions[session].hall, sessions[session].partition) : NONE;
-}
-
-static struct Transaction *transaction(u64 number) {
-    bool there = number >= 1 && number <= REQUESTS && transactions[number].session != NONE;
-    return there ? &transactions[number] : NULL;
-}
-
-static int coordinator_of(u64 number) {
-    struct Transaction *t = transaction(number);
-    return t == NULL ? NONE : lane_of(t->hall, t->partition);
-}
-
-/* "the coordinator's hall if it holds it, else the first holder found counting up from it and past the last back to 0" */
-static int writer_of(u64 number, u64 partition) {
-    struct Transaction *t = transaction(number);
-    if (t == NULL || partition >= partitions)
+    if (session >= store.sessions)
         return NONE;
-    u64 hall = t->hall;
-    while (!holds(hall, partition))
-        hall = (hall + 1) % halls;
-    return lane_of(hall, partition);
+    struct Home home = store.session[session].home;
+    return lane_of(home.hall, home.partition);
 }
+
+static bool is_transaction(u64 number) { return number >= 1 && number <= store.requests; }
+
+static int coordinator_of(u64 number) { return is_transaction(number) ? ended_at[number] : NONE; }
+
+static int writer_of(u64 number, u64 partition) {
+    if (!is_transaction(number) || partition >= store.partitions)
+        return NONE;
+    return lane_of(writing_hall(&store, store.transaction[number - 1].hall, partition), partition);
+}
+
+/* ---- Rows ---- */
 
 static void put(char *line, size_t size, const char *format, ...) {
     size_t used = strlen(line);
@@ -149,31 +80,7 @@ static void put(char *line, size_t size, const char *format, ...) {
 #define SERVER "(%" PRIu64 ", %" PRIu64 ")"
 #define N "%" PRIu64
 
-/* "One message with these and the version clock goes to each other holder" */
-static void send(u64 hall, u64 partition, int row, bool carries) {
-    for (u64 to = 0; to < halls; to++) {
-        if (to == hall || !holds(to, partition))
-            continue;
-        int m = message_count++;
-        messages[m] = (struct Message){lane_of(hall, partition), lane_of(to, partition), row, NONE, NONE, carries};
-        int *first = &oldest[partition][hall][to], *last = &newest[partition][hall][to];
-        if (*first == NONE)
-            *first = m;
-        else
-            messages[*last].next = m;
-        *last = m;
-    }
-}
-
-static void deliver(u64 partition, u64 from, u64 to, int row) {
-    int *first = &oldest[partition][from][to];
-    if (*first == NONE)
-        return;
-    messages[*first].taken = row;
-    *first = messages[*first].next;
-}
-
-/* What is asked, in words, and its lanes. */
+/* What is asked, in words, and its lanes, before the step. */
 static void ask(struct Row *row, const u64 n[4]) {
     u64 a = n[1], b = n[2], c = n[3];
     switch (n[0]) {
@@ -187,7 +94,8 @@ static void ask(struct Row *row, const u64 n[4]) {
         break;
     case READ:
         WORDS("session " N " reads key " N " in hall " N, a, b, c);
-        row->lane = lane_of(c, b % partitions);
+        row->own = row->refusal == 0 && look_in_session(&store.session[a], b) != NULL;
+        row->lane = row->own ? home_of(a) : lane_of(c, partition_of(&store, b));
         row->asker = home_of(a);
         break;
     case WRITE:
@@ -210,6 +118,7 @@ static void ask(struct Row *row, const u64 n[4]) {
         break;
     case INSTALL:
         WORDS("install at " SERVER, a, b);
+        row->quiet = row->refusal == 0 && quiet(&store, a, b);
         row->lane = lane_of(a, b);
         break;
     case DELIVER:
@@ -218,7 +127,7 @@ static void ask(struct Row *row, const u64 n[4]) {
         break;
     case REPORT:
         WORDS("report of " SERVER, a, b);
-        row->lane = holds(a, b) ? lane_of_hall(a) : NONE;
+        row->lane = holds(&store, a, b) ? lane_of_hall(a) : NONE;
         row->asker = lane_of(a, b);
         break;
     case SHARE:
@@ -235,7 +144,7 @@ static void ask(struct Row *row, const u64 n[4]) {
         WORDS("session " N " moves", a);
         row->lane = home_of(a);
         if (row->lane != NONE)
-            WORDS(" from " SERVER, sessions[a].hall, sessions[a].partition);
+            WORDS(" from " SERVER, store.session[a].home.hall, store.session[a].home.partition);
         WORDS(" to " SERVER, b, c);
         break;
     default:
@@ -243,40 +152,24 @@ static void ask(struct Row *row, const u64 n[4]) {
     }
 }
 
-static void start(struct Session *s, u64 snapshot) {
-    s->snapshot = snapshot;
-    s->written = s->read = 0;
-    for (int key = 0; key < KEYS; key++)
-        if (s->cached[key] <= snapshot)
-            s->cached[key] = 0;
-}
-
-/* "Looks in write set, read set, cache, then at that hall's server, at S." */
-static void read_key(struct Row *row, struct Session *s, u64 key, u64 found, u64 value) {
-    uint32_t bit = UINT32_C(1) << key;
-    bool own = ((s->written | s->read) & bit) != 0 || s->cached[key] != 0;
-    if (own) {
-        row->lane = row->asker;
-        row->asker = NONE;
-    }
+static void read_key(struct Row *row, u64 session, u64 found, u64 value) {
     if (found != 0) {
         WORDS(": " N, value);
         LABEL(N, value);
-        s->read |= bit;
     } else {
         WORDS(": nothing");
         LABEL("none");
     }
-    if (own) {
+    if (row->own) {
         WORDS(", its own");
         LABEL(" own");
     } else {
-        WORDS(" at " N, s->snapshot);
-        LABEL(" at " N, s->snapshot);
+        WORDS(" at " N, store.session[session].snapshot);
+        LABEL(" at " N, store.session[session].snapshot);
     }
 }
 
-static void end(struct Row *row, u64 session, u64 number, u64 written) {
+static void end(struct Row *row, u64 number, u64 written) {
     if (number == 0) {
         WORDS(", nothing written");
         LABEL("end");
@@ -284,52 +177,47 @@ static void end(struct Row *row, u64 session, u64 number, u64 written) {
     }
     WORDS(": transaction " N ", partitions: " N, number, written);
     LABEL("T" N, number);
-    const struct Session *s = &sessions[session];
-    if (number <= REQUESTS)
-        transactions[number] = (struct Transaction){(int)session, s->hall, s->partition, s->written};
+    ended_at[number] = row->lane;
 }
 
-static void decide(u64 number, u64 time) {
-    struct Transaction *t = transaction(number);
-    if (t == NULL)
-        return;
-    struct Session *s = &sessions[t->session];
-    for (int key = 0; key < KEYS; key++)
-        if (t->keys >> key & 1)
-            s->cached[key] = time;
-    s->written = 0;
+/* In a channel no two messages carry the same clock: an install that leaves its clock is quiet. So the clock tells which one was
+ * sent just now, and which one a delivery takes. */
+static void send(const struct Row *row, u64 hall, u64 partition, u64 clock, u64 installed) {
+    for (u64 to = 0; to < store.halls; to++) {
+        const struct Channel *channel = &store.channel[partition][hall][to];
+        if (channel->count > 0 && channel->list[channel->count - 1].clock == clock)
+            arrows[arrow_count++] =
+                (struct Arrow){row->lane, lane_of(to, partition), (int)(row - rows), NONE, clock, installed != 0};
+    }
 }
 
-/* "An install that installs nothing and leaves the version clock where it was shall send no message" */
+static void deliver(const struct Row *row, int from, u64 clock) {
+    for (int i = 0; i < arrow_count; i++)
+        if (arrows[i].from == from && arrows[i].to == row->lane && arrows[i].clock == clock)
+            arrows[i].taken = (int)(row - rows);
+}
+
 static void install(struct Row *row, u64 hall, u64 partition, u64 clock, u64 installed) {
     WORDS(": version clock " N ", installed: " N, clock, installed);
     LABEL("version " N, clock);
     if (installed != 0)
         LABEL(", +" N, installed);
-    if (installed == 0 && clock == version_clocks[hall][partition]) {
+    if (row->quiet) {
         WORDS(", quiet");
         LABEL(", quiet");
     } else {
-        send(hall, partition, (int)(row - rows), installed != 0);
+        send(row, hall, partition, clock, installed);
     }
-    version_clocks[hall][partition] = clock;
 }
 
-static void set_stable(struct Row *row, u64 time) {
-    row->sets_stable = true;
-    row->stable = time;
-}
-
-static void move(struct Row *row, u64 session, u64 hall, u64 partition) {
-    sessions[session].hall = hall;
-    sessions[session].partition = partition;
+static void move(struct Row *row, u64 session) {
     row->mover = session;
     row->asker = row->lane;
     row->lane = home_of(session);
     moved = true;
 }
 
-/* What was answered. The lane says that the numbers are there, even where the printout is not this script's. */
+/* What was answered, after the step. */
 static void answer(struct Row *row, const u64 n[4], u64 first, u64 second) {
     u64 a = n[1], b = n[2], c = n[3];
     switch (n[0]) {
@@ -339,18 +227,15 @@ static void answer(struct Row *row, const u64 n[4], u64 first, u64 second) {
     case START:
         WORDS(": snapshot " N ", lag " N, first, second);
         LABEL("S " N, first);
-        start(&sessions[a], first);
-        set_stable(row, first);
         break;
     case READ:
-        read_key(row, &sessions[a], b, first, second);
+        read_key(row, a, first, second);
         break;
     case WRITE:
         LABEL("key " N ": " N, b, c);
-        sessions[a].written |= UINT32_C(1) << b;
         break;
     case END:
-        end(row, a, first, second);
+        end(row, first, second);
         break;
     case PREPARE:
         WORDS(": proposed " N, first);
@@ -359,7 +244,6 @@ static void answer(struct Row *row, const u64 n[4], u64 first, u64 second) {
     case DECIDE:
         WORDS(": commit time " N, first);
         LABEL("T" N " decided " N, a, first);
-        decide(a, first);
         break;
     case COMMIT:
         WORDS(": hybrid clock " N, first);
@@ -373,7 +257,7 @@ static void answer(struct Row *row, const u64 n[4], u64 first, u64 second) {
         LABEL("hall " N ": " N, b, first);
         if (second != 0)
             LABEL(", +" N, second);
-        deliver(a, b, c, (int)(row - rows));
+        deliver(row, lane_of(b, a), first);
         break;
     case REPORT:
         WORDS(": " N, first);
@@ -386,136 +270,108 @@ static void answer(struct Row *row, const u64 n[4], u64 first, u64 second) {
     case LEARN:
         WORDS(": stable time " N, first);
         LABEL("stable " N, first);
-        set_stable(row, first);
         break;
     case MOVE:
         LABEL("session " N, a);
-        move(row, a, b, c);
+        move(row, a);
         break;
     }
 }
 
-/* Can the followed state take this step? A key, a sender or a new home is no lane, so they are looked at here. */
-static bool has_place(const struct Row *row, const u64 n[4]) {
-    if (row->lane == NONE)
-        return false;
-    switch (n[0]) {
-    case READ:
-        return row->asker != NONE && n[2] < KEYS;
-    case WRITE:
-        return n[2] < KEYS;
-    case DELIVER:
-        return holds(n[2], n[1]);
-    case SHARE:
-        return row->asker != NONE;
-    case MOVE:
-        return holds(n[2], n[3]);
-    default:
-        return true;
-    }
-}
-
-static void follow(const u64 n[4], const u64 line[4]) {
+static struct Answer follow(const u64 n[4]) {
     struct Row *row = &rows[row_count++];
-    *row = (struct Row){.code = n[0], .refusal = line[1], .lane = NONE, .asker = NONE};
+    *row = (struct Row){.code = n[0], .refusal = refusal(&store, n[0], n[1], n[2], n[3]), .lane = NONE, .asker = NONE};
     ask(row, n);
+    struct Answer due = step(&store, n[0], n[1], n[2], n[3]);
     if (row->refusal != 0) {
-        WORDS(": turned away, " N, row->refusal);
-        LABEL("turned away, " N, row->refusal);
+        WORDS(": turned away, %u", row->refusal);
+        LABEL("turned away, %u", row->refusal);
         row->asker = NONE;
-    } else if (has_place(row, n)) {
-        answer(row, n, line[2], line[3]);
     } else {
-        WORDS(": " N " " N, line[2], line[3]);
-        row->lane = row->asker = NONE;
+        answer(row, n, due.first, due.second);
     }
+    if (row->lane != NONE && server_at[row->lane] != NULL)
+        row->stable = server_at[row->lane]->stable;
+    return due;
 }
 
-/* ---- Setup and the run ---- */
+/* ---- The run ---- */
 
 static void give_lanes(void) {
-    for (u64 h = 0; h < halls; h++) {
+    for (u64 h = 0; h < store.halls; h++) {
         hall_lane[h] = lane_count++;
-        for (u64 p = 0; p < partitions; p++)
-            if (holds(h, p)) {
+        for (u64 p = 0; p < store.partitions; p++)
+            if (holds(&store, h, p)) {
+                server_at[lane_count] = &store.server[h][p];
                 server_lane[h][p] = lane_count++;
-                servers++;
             }
     }
-    for (u64 s = 0; s < session_count; s++) {
+    for (u64 s = 0; s < store.sessions; s++) {
         char *line = homes[home_of(s)];
         put(line, sizeof homes[0], "%s" N, line[0] == 0 ? "sessions: " : ", ", s);
     }
 }
 
-/* The sections before the step count; false where they are not such that a setup can be taken. */
-static bool take_setup(struct Text *script) {
-    u64 held = 0;
-    if (!take(script, &halls) || halls < 1 || halls > HALLS)
-        return false;
-    for (u64 h = 0; h < halls; h++) {
-        if (!take(script, &masks[h]) || masks[h] < 1 || masks[h] >= 1 << PARTITIONS)
-            return false;
-        held |= masks[h];
+static struct Reader read_file(const char *path, unsigned char *bytes, size_t size) {
+    FILE *file = fopen(path, "rb");
+    size_t length = file == NULL ? 0 : fread(bytes, 1, size, file);
+    if (file == NULL || ferror(file)) {
+        fprintf(stderr, "draw: cannot read %s\n", path);
+        exit(1);
     }
-    while (held >> partitions & 1)
-        partitions++;
-    if (held >> partitions != 0)
-        return false;
-    if (!take(script, &session_count) || session_count < 1 || session_count > SESSIONS)
-        return false;
-    for (u64 s = 0; s < session_count; s++)
-        if (!take(script, &sessions[s].hall) || !take(script, &sessions[s].partition) ||
-            !holds(sessions[s].hall, sessions[s].partition))
-            return false;
-    return true;
+    fclose(file);
+    return (struct Reader){bytes, length, 0};
 }
 
-/* Why nothing more is drawn, after the lines that were used. */
-static void say_ending(struct Text printout, const char *where) {
-    static const char stop[] = "script ";
-    u64 n[4];
-    if ((size_t)(printout.end - printout.at) >= sizeof stop - 1 && memcmp(printout.at, stop, sizeof stop - 1) == 0) {
-        printout.at += sizeof stop - 1;
-        if (take(&printout, &n[0])) {
-            put(ending, sizeof ending, "The script stops %s: bad text at offset " N ".", where, n[0]);
-            return;
-        }
-    }
-    if (printout.at == printout.end)
-        put(ending, sizeof ending, "The printout ends %s.", where);
-    else if (take_four(&printout, n) && n[0] == 0 && n[1] != 0)
-        put(ending, sizeof ending, "The script stops %s: setup is turned away, " N ".", where, n[1]);
+static void differs(const struct Reader *printout, const char *due) {
+    fprintf(stderr, "draw: the printout is not this script's: at offset %zu should be %s", printout->place, due);
+    exit(1);
+}
+
+/* The printout must go on with this line. */
+static void expect(struct Reader *printout, const char *line) {
+    size_t left = printout->length - printout->place, length = strlen(line);
+    if (left < length || memcmp(printout->text + printout->place, line, length) != 0)
+        differs(printout, line);
+    printout->place += length;
+}
+
+static void expect_answer(struct Reader *printout, u64 number, struct Answer due) {
+    char line[LINE_SIZE];
+    write_answer(line, number, due);
+    expect(printout, line);
+}
+
+static void stop(const char *why, u64 number) {
+    put(ending, sizeof ending, "The script stops ");
+    if (store.halls == 0)
+        put(ending, sizeof ending, "before step 1");
     else
-        put(ending, sizeof ending, "The printout is not this script's %s.", where);
+        put(ending, sizeof ending, "after step %d", row_count);
+    put(ending, sizeof ending, ": %s " N ".", why, number);
 }
 
-static void run(struct Text script, struct Text printout) {
-    u64 n[4], line[4];
-    struct Text next = printout;
-    for (int i = 1; i <= REQUESTS; i++)
-        transactions[i].session = NONE;
-    memset(oldest, NONE, sizeof oldest);
-    bool set = take_setup(&script);
-    if (!take_four(&next, line) || line[0] != 0 || line[1] != 0 || !set) {
-        halls = session_count = 0;
-        say_ending(printout, "before step 1");
-        return;
+/* False where the script's text is bad. */
+static bool run(struct Reader *script, struct Reader *printout) {
+    struct Answer due;
+    u64 count, n[4];
+    if (!take_setup(script, &store, &due))
+        return false;
+    expect_answer(printout, 0, due);
+    if (due.refusal != 0) {
+        stop("setup is turned away,", due.refusal);
+        return true;
     }
-    printout = next;
+    servers = due.second;
     give_lanes();
-    if (!take(&script, &step_count))
-        step_count = STEPS + 1;
-    while ((u64)row_count < step_count && row_count < STEPS && take_four(&script, n) && take_four(&next, line) &&
-           line[0] == (u64)row_count + 1) {
-        follow(n, line);
-        printout = next;
+    if (!take_step_count(script, &count))
+        return false;
+    for (u64 number = 1; number <= count; number++) {
+        if (!take_step(script, n))
+            return false;
+        expect_answer(printout, number, follow(n));
     }
-    if ((u64)row_count < step_count || printout.at != printout.end) {
-        char where[32];
-        snprintf(where, sizeof where, "after step %d", row_count);
-        say_ending(printout, where);
-    }
+    return script->place == script->length;
 }
 
 /* ---- The picture: sizes are whole pixels ---- */
@@ -569,14 +425,14 @@ static void measure(void) {
             at_least(&widest[rows[i].lane], label_width(strlen(rows[i].label)));
     }
     int x = words_at + words + LEFT;
-    for (u64 h = 0; h < halls; h++) {
+    for (u64 h = 0; h < store.halls; h++) {
         int lane = hall_lane[h];
         at_least(&widest[lane], label_width(8));
         lane_left[lane] = x;
         lane_x[lane] = x + 14;
         x = lane_x[lane] + LABEL_AT + widest[lane] + GAP;
-        for (u64 p = 0; p < partitions; p++) {
-            if (!holds(h, p))
+        for (u64 p = 0; p < store.partitions; p++) {
+            if (!holds(&store, h, p))
                 continue;
             lane = server_lane[h][p];
             at_least(&widest[lane], label_width(13) - BAND);
@@ -664,14 +520,14 @@ static void mark(u64 code, int x, int y) {
 /* ---- The layers, from the back to the front ---- */
 
 static void draw_halls(void) {
-    for (u64 h = 0; h < halls; h++) {
+    for (u64 h = 0; h < store.halls; h++) {
         int x = lane_left[hall_lane[h]];
-        int end = (h + 1 < halls ? lane_left[hall_lane[h + 1]] : lane_left[lane_count]) - GAP;
+        int end = (h + 1 < store.halls ? lane_left[hall_lane[h + 1]] : lane_left[lane_count]) - GAP;
         printf("<rect x=\"%d\" y=\"40\" width=\"%d\" height=\"%d\" rx=\"6\" fill=\"#f4f4f1\"/>\n", x, end - x, rows_end - 40);
         text('t', x + GAP, 58, black, "hall " N, h);
         text('l', x + GAP, 76, black, "its notes");
-        for (u64 p = 0; p < partitions; p++) {
-            if (!holds(h, p))
+        for (u64 p = 0; p < store.partitions; p++) {
+            if (!holds(&store, h, p))
                 continue;
             int lane = server_lane[h][p];
             x = lane_left[lane] + GAP;
@@ -694,20 +550,18 @@ static void draw_band(int x, int wide, int from, int to) {
 
 /* Left of a server's line a band shows its stable time: the later, the wider, among all those of the run. */
 static void draw_stable_times(void) {
-    static u64 times[STEPS + 1];
-    int count = 1; /* all begin at 0 */
+    static u64 times[STEP_LIMIT + 1]; /* the first is 0, where all begin */
     for (int i = 0; i < row_count; i++)
-        if (rows[i].sets_stable)
-            times[count++] = rows[i].stable;
-    qsort(times, (size_t)count, sizeof times[0], by_size);
+        times[i + 1] = rows[i].stable;
+    qsort(times, (size_t)row_count + 1, sizeof times[0], by_size);
     int distinct = 1;
-    for (int i = 1; i < count; i++)
+    for (int i = 1; i <= row_count; i++)
         if (times[i] != times[distinct - 1])
             times[distinct++] = times[i];
     for (int lane = 0; lane < lane_count; lane++) {
         int wide = 0, from = HEAD;
         for (int i = 0; i < row_count; i++) {
-            if (!rows[i].sets_stable || rows[i].lane != lane)
+            if (rows[i].lane != lane)
                 continue;
             u64 *place = bsearch(&rows[i].stable, times, (size_t)distinct, sizeof times[0], by_size);
             int now = distinct == 1 ? 0 : BAND * (int)(place - times) / (distinct - 1);
@@ -725,7 +579,7 @@ static const char walk[] = "stroke=\"#99c1f1\" stroke-width=\"5\"/>";
 
 /* A session that moves is followed along its home lanes. */
 static void draw_walks(void) {
-    for (u64 s = 0; s < session_count; s++) {
+    for (u64 s = 0; s < store.sessions; s++) {
         bool walks = false;
         for (int i = 0; i < row_count; i++) {
             const struct Row *row = &rows[i];
@@ -763,8 +617,8 @@ static void draw_time(int x, int to, int y) {
 
 /* Deliveries slope down from the install that sent them. What a step asks of another lane goes straight across. */
 static void draw_arrows(void) {
-    for (int m = 0; m < message_count; m++) {
-        const struct Message *a = &messages[m];
+    for (int i = 0; i < arrow_count; i++) {
+        const struct Arrow *a = &arrows[i];
         draw_message(lane_x[a->from], y_of(a->sent), lane_x[a->to], y_of(a->taken), a->taken != NONE, a->carries);
     }
     for (int i = 0; i < row_count; i++) {
@@ -842,7 +696,7 @@ static void draw(void) {
     draw_arrow_head("copy", colour_of(DELIVER));
     draw_arrow_head("time", colour_of(LEARN));
     printf("<rect width=\"%d\" height=\"%d\" fill=\"#fff\"/>\n", width, height);
-    text('t', LEFT, 26, black, "halls: " N ", servers: " N ", sessions: " N ", steps: %d", halls, servers, session_count,
+    text('t', LEFT, 26, black, "halls: " N ", servers: " N ", sessions: " N ", steps: %d", store.halls, servers, store.sessions,
          row_count);
     draw_halls();
     draw_stable_times();
@@ -855,11 +709,21 @@ static void draw(void) {
 }
 
 int main(int count, char **arguments) {
+    static unsigned char script_text[TEXT_LIMIT + 1], printout_text[(STEP_LIMIT + 2) * LINE_SIZE];
+    char line[LINE_SIZE];
     if (count != 3) {
         fputs("use: draw SCRIPT PRINTOUT >PICTURE.svg\n", stderr);
         return 1;
     }
-    run(read_file(arguments[1], SCRIPT_LIMIT), read_file(arguments[2], PRINTOUT_LIMIT));
+    struct Reader script = read_file(arguments[1], script_text, sizeof script_text);
+    struct Reader printout = read_file(arguments[2], printout_text, sizeof printout_text);
+    if (!run(&script, &printout)) {
+        write_bad_text(line, &script);
+        expect(&printout, line);
+        stop("bad text at offset", script.place);
+    }
+    if (printout.place != printout.length)
+        differs(&printout, "its end\n");
     draw();
     return fflush(stdout) == 0 && !ferror(stdout) ? 0 : 1;
 }
