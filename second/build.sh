@@ -9,4 +9,4 @@ compile() {
         { echo "second: ${1%.c} does not build"; exit 1; }
 }
 compile second.c script.c
-compile gen.c
+compile gen.c draft.c
