@@ -1,5 +1,7 @@
-// Any words as a room and any numbers as a step: each ends with an answer. Bounded and seeded; prints how many were turned away.
-ghost use Prim.Native.Nat.{_≤_};
+// Any words as a room and any numbers as a step: each ends with an answer. Bounded and seeded; prints how many were taken and turned away.
+ghost use mathlib.Core.Path.{_≡_};
+ghost use Prim.Native.Nat.{_+_, _≤_, _<_};
+ghost use Rattle.wild.specs.Counted.{isRefused, counted as countedOf};
 use book::Answer;
 use libc::STDOUT_FILENO;
 
@@ -19,73 +21,124 @@ fn fill(room: &mut [u64], seed: u64) -> u64 {
     x
 }
 
-// 1 where the answer is a refusal, else 0.
-fn refused(a: Answer) -> u64
-    ensures { λ r. ⌜ r ≤ 1 ⌝ }
+// x reduced to below m, and whole where m is 0.
+fn part(x: u64, m: u64) -> u64 {
+    if m == 0 { x } else { x % m }
+}
+
+// How many steps were answered: those taken, and those turned away.
+pub struct Count {
+    pub taken: u64,
+    pub away: u64,
+}
+
+fn refused(a: Answer) -> bool
+    ensures { λ r. ⌜ r ≡ isRefused a ⌝ }
 {
     match a {
-        Answer::Refused(_) => 1,
-        Answer::Answered(_, _) => 0,
-        Answer::Own(_) => 0,
-        Answer::Read(_) => 0,
+        Answer::Refused(_) => true,
+        Answer::Answered(_, _) => false,
+        Answer::Own(_) => false,
+        Answer::Read(_) => false,
     }
 }
 
-// How many of a hundred steps were turned away, on a room with the numbers below m.
-fn hundred(room: &mut [u64], seed: u64, m: u64) -> u64
-    ensures { λ r. ⌜ r ≤ 100 ⌝ }
+fn counted(mut n: Count, a: Answer) -> Count
+    requires { ⌜ n .taken + n .away < 100 ⌝ }
+    ensures { λ r. ⌜ r ≡ countedOf n a ⌝ }
+{
+    if refused(a) {
+        n.away += 1;
+        n
+    } else {
+        n.taken += 1;
+        n
+    }
+}
+
+// A hundred steps, with codes below `codes` and numbers below m, and with any where that is 0.
+fn hundred(room: &mut [u64], seed: u64, codes: u64, m: u64) -> Count
+    ensures { λ r. ⌜ r .taken + r .away ≡ 100 ⌝ }
 {
     let mut x = seed;
-    let mut away = 0;
+    let mut n = Count { taken: 0, away: 0 };
     for i in 0..100usize {
         let code = next(x);
         let a = next(code);
         let b = next(a);
         let c = next(b);
         x = c;
-        away = count(
-            away,
-            store::step(room, part(code, 16), part(a, m), part(b, m), part(c, m)),
+        n = counted(
+            n,
+            store::step(room, part(code, codes), part(a, m), part(b, m), part(c, m)),
         );
     }
-    away
+    n
 }
 
-fn count(n: u64, a: Answer) -> u64
-    requires { ⌜ n ≤ 100 ⌝ }
-    ensures { λ r. ⌜ r ≤ 100 ⌝ }
-{
-    if n < 100 { n + refused(a) } else { n }
-}
-
-// x reduced to below m, and whole where m is 0.
-fn part(x: u64, m: u64) -> u64 {
-    if m == 0 { x } else { x % m }
-}
-
-fn say(words: &[u8], n: u64) {
+fn say(words: &[u8], n: Count) {
     io::write_all(STDOUT_FILENO, words);
-    io::print_decimal(STDOUT_FILENO, n);
+    io::write_all(STDOUT_FILENO, b": taken ");
+    io::print_decimal(STDOUT_FILENO, n.taken);
+    io::write_all(STDOUT_FILENO, b", turned away ");
+    io::print_decimal(STDOUT_FILENO, n.away);
     io::write_all(STDOUT_FILENO, b"\n");
+}
+
+// A hundred steps, said; returns how many were answered, with those before.
+fn steps(words: &[u8], room: &mut [u64], seed: u64, codes: u64, m: u64, answered: u64) -> u64
+    requires { ⌜ answered ≤ 10000 ⌝ }
+    ensures { λ r. ⌜ r ≡ answered + 100 ⌝ }
+{
+    let n = hundred(room, seed, codes, m);
+    say(words, n);
+    answered + (n.taken + n.away)
+}
+
+// A room as setup left it, and then as the steps leave it.
+fn five(room: &mut [u64], seed: u64, answered: u64) -> u64
+    requires { ⌜ answered ≤ 1000 ⌝ }
+    ensures { λ r. ⌜ r ≡ answered + 500 ⌝ }
+{
+    let mut n = steps(
+        b"a room as set up, any code and numbers",
+        room,
+        seed,
+        0,
+        0,
+        answered,
+    );
+    n = steps(b"then any code, numbers below 3", room, seed, 0, 3, n);
+    n = steps(b"then codes below 16, any numbers", room, seed, 16, 0, n);
+    n = steps(
+        b"then codes below 16, numbers below 3",
+        room,
+        seed,
+        16,
+        3,
+        n,
+    );
+    steps(b"then the same, drawn anew", room, next(seed), 16, 3, n)
 }
 
 fn main() {
     let mut room = [0u64; 7304];
     let x = fill(&mut room, 88172645463325252);
-    say(
-        b"random words as a room: turned away of 100 steps: ",
-        hundred(&mut room, x, 0),
+    let mut n = steps(
+        b"random words as a room, any code and numbers",
+        &mut room,
+        x,
+        0,
+        0,
+        0,
     );
     let masks = [3u64, 2];
     let homes = [0u64, 0, 1, 1];
     setup::setup(&mut room, &masks, &homes);
-    hundred(&mut room, x, 0);
-    hundred(&mut room, x, 3);
-    hundred(&mut room, next(x), 3);
+    n = five(&mut room, x, n);
     let mut short = [0u64; 100];
-    say(
-        b"a room of wrong length: turned away of 100 steps: ",
-        hundred(&mut short, x, 0),
-    );
-    say(b"all steps answered: ", 500);
+    n = steps(b"a room of wrong length", &mut short, x, 16, 3, n);
+    io::write_all(STDOUT_FILENO, b"all steps answered: ");
+    io::print_decimal(STDOUT_FILENO, n);
+    io::write_all(STDOUT_FILENO, b"\n");
 }
