@@ -131,7 +131,7 @@ fn differs(bytes: &[u8], cuts: &[usize], i: usize, room: &mut [u64], out: &mut [
 fn report(
     bytes: &[u8],
     cuts: &[usize],
-    agree: usize,
+    agree: u64,
     scripts: usize,
     room: &mut [u64],
     out: &mut [u8],
@@ -139,7 +139,7 @@ fn report(
     requires { ⌜ (scripts + scripts < length (now cuts)) × (length (now room) ≡ size) × (capacity ≤ length (now out)) ⌝ }
     ensures { λ r. ⌜ (length (now (room .exit)) ≡ size) × (length (now (out .exit)) ≡ length (now (out .entry))) ⌝ }
 {
-    if agree == scripts {
+    if agree == scripts as u64 {
         return;
     }
     for i in 0..scripts {
@@ -155,7 +155,7 @@ fn run_all(list: &[u8], bytes: &mut [u8], cuts: &mut [usize], room: &mut [u64], 
     let scripts = read_all(list, bytes, cuts);
     let agree = tally::tally(bytes, cuts, scripts, room, out);
     report(bytes, cuts, agree, scripts, room, out);
-    io::print_decimal(STDOUT_FILENO, agree as u64);
+    io::print_decimal(STDOUT_FILENO, agree);
     io::write_all(STDOUT_FILENO, b" of ");
     io::print_decimal(STDOUT_FILENO, scripts as u64);
     io::write_all(STDOUT_FILENO, b" scripts agree\n");

@@ -1,13 +1,13 @@
 // Scripts held to what is stored of them, and how many agree.
 ghost use mathlib.Core.Path.{_≡_};
-ghost use mathlib.Core.Bool.{cond};
-ghost use Prim.Native.Nat.{_+_, _^_, _≤_, _<_};
+ghost use Prim.Native.Nat.{_+_, _≤_, _<_};
 ghost use lib.ListN.{length};
 ghost use Rattle.book.specs.Folds.{count};
 ghost use Rattle.room.specs.Layout.{size};
 ghost use Rattle.script.specs.Length.{capacity};
 ghost use Rattle.tally.specs.Compare.{compared, isSame};
 ghost use Rattle.tally.specs.Agrees.{verdict, verdictAt, agrees};
+use formed::one_more;
 
 // Two texts are the same, or the first offset where they are not.
 pub enum Compared {
@@ -69,30 +69,23 @@ pub fn judge_at(
     judge(&bytes[a..b], &bytes[b..e], room, out)
 }
 
-fn counted(n: usize, x: Compared) -> usize
-    requires { ⌜ n < 2 ^ 63 ⌝ }
-    ensures { λ r. ⌜ r ≡ cond (isSame x) (n + 1) n ⌝ }
+fn is_same(x: Compared) -> bool
+    ensures { λ r. ⌜ r ≡ isSame x ⌝ }
 {
     match x {
-        Compared::Same => n + 1,
-        Compared::At(_) => n,
+        Compared::Same => true,
+        Compared::At(_) => false,
     }
 }
 
 // How many of the scripts print what is stored of them.
-pub fn tally(
-    bytes: &[u8],
-    cuts: &[usize],
-    scripts: usize,
-    room: &mut [u64],
-    out: &mut [u8],
-) -> usize
+pub fn tally(bytes: &[u8], cuts: &[usize], scripts: usize, room: &mut [u64], out: &mut [u8]) -> u64
     requires { ⌜ (scripts + scripts < length (now cuts)) × (length (now room) ≡ size) × (capacity ≤ length (now out)) ⌝ }
     ensures { λ r. ⌜ (length (now (room .exit)) ≡ size) × (length (now (out .exit)) ≡ length (now (out .entry))) × (r ≡ count scripts (agrees (now (bytes .entry)) (now (cuts .entry)))) ⌝ }
 {
     let mut n = 0;
     for i in 0..scripts {
-        n = counted(n, judge_at(bytes, cuts, i, room, out));
+        n = one_more(n, is_same(judge_at(bytes, cuts, i, room, out)));
     }
     n
 }

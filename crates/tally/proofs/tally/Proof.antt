@@ -22,10 +22,11 @@ unfolding count
 tally-spec = tie.close (tie.spec Inv-loop μ-loop
     (λ c. (search needs, search needs, refl, refl))
     (λ c κs. search needs)
-    (λ c κs. let l = c .before .before .before .before .before .before .before .before .loop in omega (arith, l .inv .3, count-le (l .i) (agrees (c .before .before .before .before .before .before .before .before .before .before .before .before .before .args .bytes .now) (c .before .before .before .before .before .before .before .before .before .before .before .before .before .args .cuts .now))))
+    (λ c κs. search needs)
+    (λ c κs. let l = c .before .before .before .before .before .before .before .before .before .loop in omega (arith, l .inv .3, count-le (l .i) (agrees (c .before .before .before .before .before .before .before .before .before .before .before .before .before .before .args .bytes .now) (c .before .before .before .before .before .before .before .before .before .before .before .before .before .before .args .cuts .now))))
     (λ c. search needs)
     (λ c. search needs)
-    (λ c. let l = c .before .before .before .before .before .before .before .before .before .loop .inv in let j = c .before .before .before .before .before .judge-at .ensures in (search needs, j .0, j .1 ∙ l .2, rw (count-next, ← (l .3), ← (j .2)) (c .counted .ensures)))
+    (λ c. let l = c .before .before .before .before .before .before .before .before .before .before .loop .inv in let j = c .before .before .before .before .before .before .judge-at .ensures in (search needs, j .0, j .1 ∙ l .2, rw (count-next, ← (l .3), ← (j .2), ← (c .before .is-same .ensures)) (c .one-more .ensures)))
     (λ c. search needs)
     (λ c. search needs)
     (λ c. let l = c .before .loop in let e : l .i ≡ c .before .before .before .before .before .before .args .scripts = omega arith in (l .inv .1, l .inv .2, rw (← e) (l .inv .3))))
