@@ -45,6 +45,10 @@ setup-good {r} o z =
     (λ e. (e, rw e at (sym (setup-gives o) ∙ z)))
     (λ e. let f : _≡_ {A = ℕ} 1 0 = rw e at (sym (setup-gives o) ∙ z) in absurd (omega arith))
 
+-- leaves the store of its numbers
+pub setup-store : {r masks homes : List ℕ} {x : Answer} {late : List ℕ} → Outcome r masks homes x late → given x ≡ 0 → store late ≡ firstStore masks homes
+setup-store o z = let w = setup-good o z in rw (w .0, w .1) at (o .store)
+
 record Laid (r : List ℕ) : Type 0 where
   length : length r ≡ size
   store : Reached (store r)
@@ -57,7 +61,7 @@ laid (ReachedRoom.begun {r} {masks} {homes} {x} {late} o z) =
     let w = setup-good o z in
     record {
       length = ap length (o .room) ∙ rw (w .0, w .1) (length-lay (firstStore masks homes));
-      store = rw (o .store, w .0, w .1) (Reached.begun masks homes (w .1));
+      store = rw (setup-store o z) (Reached.begun masks homes (w .1));
     }
 laid (ReachedRoom.onward {r} R {code} {a} {b} {c} {x} {late} s) =
     let L = laid R in

@@ -14,7 +14,6 @@ use Rattle.book.specs.Sets.{member}
 use Rattle.book.specs.Servers.{writer}
 use Rattle.book.specs.ReplicationSteps.{deliver}
 use Rattle.theorems.specs.Inv.{Clocks, clockAt, setAt, Channels, Queued, Holding, Inv, Grown}
-use Rattle.theorems.specs.Gossip.{grow-gossip}
 use Rattle.theorems.specs.Install.{has-place}
 
 -- once the oldest is taken, the i-th message is the one that was the next
@@ -32,7 +31,7 @@ module _ (σ : Store) (I : Inv σ) (p f g : ℕ) (apart : f ≡ g → ⊥) (some
       (λ r c. rw (c, ← r .i, ← r .j, ← r .k) (I .channels .low g p f 0 apart some))
       (λ c. rw c (le-refl _))
 
-  deliver-clocks : Clocks (deliver σ p f g)
+  pub deliver-clocks : Clocks (deliver σ p f g)
   deliver-clocks = record {
     own = λ h q. rw (deliver-own h q) (I .clocks .own h q);
     proposed = I .clocks .proposed;
@@ -62,7 +61,7 @@ module _ (σ : Store) (I : Inv σ) (p f g : ℕ) (apart : f ≡ g → ⊥) (some
       }))
       n
 
-  deliver-channels : Channels (deliver σ p f g)
+  pub deliver-channels : Channels (deliver σ p f g)
   unfolding Moved
   deliver-channels = record {
     seen = λ g′ q f′. rw (deliver-own f′ q) (by-cell (Entry g p f) (Entry g′ q f′)
@@ -111,7 +110,7 @@ module _ (σ : Store) (I : Inv σ) (p f g : ℕ) (apart : f ≡ g → ⊥) (some
       (λ r c. inr (i, rw (c, r .i, r .j, r .k) (omega arith), rw (c, r .i, r .j, r .k, shift (σ (First g′ q f′)) i) m))
       (λ c. inr (suc i, rw c l, rw c m))
 
-  deliver-holding : Holding (deliver σ p f g)
+  pub deliver-holding : Holding (deliver σ p f g)
   deliver-holding = record {
     home = λ t q e. held-grows (writer σ t q) q t (I .holding .home t q e);
     away = λ t q g′ e k n.
@@ -124,15 +123,4 @@ module _ (σ : Store) (I : Inv σ) (p f g : ℕ) (apart : f ≡ g → ⊥) (some
         (λ c. let m = and-true (ltb t placesMax) _ (and-true (eqb p q) _ (and-true (eqb g h) _ c .1) .1) .1 in
         let x = I .channels .fresh g p f 0 t apart some m in omega arith)
         (λ c. I .holding .done h q t (rw c at e));
-  }
-
-  pub deliver-inv : Inv (deliver σ p f g)
-  deliver-inv = record {
-    setup = I .setup;
-    clocks = deliver-clocks;
-    states = I .states;
-    channels = deliver-channels;
-    holding = deliver-holding;
-    gossip = grow-gossip σ _ (I .gossip) deliver-grown;
-    writes = I .writes;
   }

@@ -10,7 +10,7 @@ use borrow.Author.Tests.{eqb-true, ltb-true, ltb-false, leb-true, eq-eqb, lt-ltb
 use Rattle.book.specs.declared.View.the-variants.{Seen}
 use Rattle.book.specs.Sizes.{partitionsMax, keys, valueMax}
 use Rattle.book.specs.Cells.{Store, Transactions, HomeHall, Status, idle, running, committing, WriteSet, WriteValue, By, From, CommitTime, KeySet, Value, State, asked}
-use Rattle.book.specs.Cases.{by-test, by-eq, and-true, eqb-refl, passed}
+use Rattle.book.specs.Cases.{by-test, by-eq, and-true, eqb-refl}
 use Rattle.book.specs.Folds.{count}
 use Rattle.book.specs.Sets.{member, member-none, member-include}
 use Rattle.book.specs.Answers.{stamp, triple, numbers}
@@ -18,13 +18,13 @@ use Rattle.book.specs.Servers.{holds, partitionOf, placeOf, numberOf}
 use Rattle.book.specs.Views.{version, decided}
 use Rattle.book.specs.SessionSteps.{write, hasWrites, touches, end, endAnswer}
 use Rattle.book.specs.Refusals.{sessionThere, transactionThere, unused, allPrepared}
-use Rattle.book.specs.Steps.{Rule, ruleOf, by-number, refusal, after, answer, refused-unchanged, startRule, writeRule, endRule, decideRule}
+use Rattle.book.specs.Steps.{Rule, ruleOf, by-code, _also_, refusal, after, answer, refused-unchanged, startRule, writeRule, endRule, decideRule}
 use Rattle.book.specs.Reached.{Reached, Later}
-use Rattle.theorems.specs.Step.{asked-for}
+use Rattle.theorems.specs.Facts.{end-alone, start-facts, read-facts, write-facts, end-facts, decide-facts}
 use Rattle.theorems.specs.Reach.{reached-later, reached-inv}
 use Rattle.theorems.specs.OwnWrites.{reached-own}
 use Rattle.theorems.specs.ReadYourWrites.{Looks, Shows, read-shows}
-use Rattle.theorems.specs.Carried.{transaction-kept}
+use Rattle.theorems.specs.TransactionKept.{transaction-kept}
 
 -- session s is running, and what it has written to key k is v
 abbrev pub Written : Store → ℕ → ℕ → ℕ → Type 0
@@ -59,8 +59,7 @@ module _ (σ : Store) (r : Reached σ) (s k : ℕ) where
 
   start-spares : (a b c : ℕ) → Spared a b 2 (startRule σ a b c)
   start-spares a b c e o =
-      let x = asked-for (sessionThere σ a && (unused b && unused c)) 3 _ (omega arith) e in
-      let y = eqb-true (σ (Status a)) idle (asked-for (eqb (σ (Status a)) idle) 6 _ (omega arith) (x .1) .0) in
+      let y = start-facts σ a b c e .rests in
       by-eq a s
       (λ q d. inr (
         λ z. let y′ : σ (Status s) ≡ idle = rw (← q) y in omega arith,
@@ -85,13 +84,8 @@ module _ (σ : Store) (r : Reached σ) (s k : ℕ) where
   decide-spares : (a b c : ℕ) → Spared a b 7 (decideRule σ a b c)
   decide-spares a b c e o =
       let t = placeOf a in
-      let x = asked-for (transactionThere σ a && (unused b && unused c)) 3 _ (omega arith) e in
-      let y = asked-for (allPrepared σ t && not (decided σ t)) 9 _ (omega arith) (x .1) in
-      let u = ltb-false 0 (σ (CommitTime t)) (not-true (decided σ t) (and-true (allPrepared σ t) _ (y .0) .1)) in
-      let w = and-true (leb 1 a) _ (and-true (transactionThere σ a) _ (x .0) .0) in
-      let l = leb-true 1 a (w .0) in
-      let m = leb-true a (σ Transactions) (w .1) in
-      let busy = reached-own r .busy t (omega arith) (omega arith) in
+      let f = decide-facts σ a b c e in
+      let busy = reached-own r .busy t (f .there) (f .undecided) in
       by-eq (σ (By t)) s
       (λ q d. inr (
         λ z. let y′ : σ (Status s) ≡ committing = rw (← q) busy in omega arith,
@@ -104,11 +98,23 @@ module _ (σ : Store) (r : Reached σ) (s k : ℕ) where
   spared code a b c e o =
       let same : Spares σ σ s k = inl (refl, refl, refl) in
       rw (eq-eqb _ _ e)
-      (by-number (Spared a b) σ code a b c
-      (λ _ _. same) (start-spares a b c) (λ _ _. same) (write-spares a b c) (end-spares a b c)
-      (λ _ _. same) (decide-spares a b c) (λ _ _. same) (λ _ _. same) (λ _ _. same)
-      (λ _ _. same) (λ _ _. same) (λ _ _. same) (λ _ _. same) (λ _ _. same)
-      e o)
+      (by-code (Spared a b) σ code a b c
+      ((λ _ _. same)
+      also start-spares a b c
+      also (λ _ _. same)
+      also write-spares a b c
+      also end-spares a b c
+      also (λ _ _. same)
+      also decide-spares a b c
+      also (λ _ _. same)
+      also (λ _ _. same)
+      also (λ _ _. same)
+      also (λ _ _. same)
+      also (λ _ _. same)
+      also (λ _ _. same)
+      also (λ _ _. same)
+      also tt)
+      (λ _ _. same) e o)
 
 wrote : (σ : Store) (s k v : ℕ) → refusal σ 4 s k v ≡ 0 → after σ 4 s k v ≡ write σ s k v
 unfolding refusal after ruleOf
@@ -118,11 +124,8 @@ wrote σ s k v e = rw (eq-eqb _ _ e)
 pub write-left : (σ : Store) (s k v : ℕ) → refusal σ 4 s k v ≡ 0 → Written (after σ 4 s k v) s k v
 unfolding refusal ruleOf
 write-left σ s k v e =
-    let a = asked-for (sessionThere σ s && ltb k keys) 3 _ (omega arith) e in
-    let b = passed (ltb valueMax v) 12 _ (omega arith) (a .1) in
-    let c = asked-for (eqb (σ (Status s)) running) 7 _ (omega arith) (b .1) in
     rw (wrote σ s k v e) (record {
-      runs = eqb-true _ _ (c .0);
+      runs = write-facts σ s k v e .runs;
       has = rw (eqb-refl s, member-include (σ (WriteSet s)) k k, eqb-refl k);
       value = rw (eqb-refl s, eqb-refl k);
     })
@@ -143,9 +146,7 @@ write-stays s k v r (Meanwhile.more {τ} m code a b c o) w =
 reads-own : (σ : Store) (s k h : ℕ) → refusal σ 3 s k h ≡ 0 → member (σ (WriteSet s)) k ≡ true
     → (σ (Status s) ≡ running) × (numbers (answer σ 3 s k h) ≡ triple 0 1 (σ (WriteValue s k)))
 unfolding refusal answer ruleOf
-reads-own σ s k h e m =
-    let a = asked-for (sessionThere σ s && (ltb k keys && holds σ h (partitionOf σ k))) 3 _ (omega arith) e in
-    (eqb-true _ _ (asked-for (eqb (σ (Status s)) running) 7 _ (omega arith) (a .1) .0), rw (eq-eqb _ _ e, m))
+reads-own σ s k h e m = (read-facts σ s k h e .runs, rw (eq-eqb _ _ e, m))
 
 -- So the session's own read of the key answers it.
 pub reads-last-write : {σ τ : Store} → Reached σ → (s k v : ℕ) → refusal σ 4 s k v ≡ 0 → Meanwhile s k (after σ 4 s k v) τ
@@ -217,9 +218,7 @@ has-some m k e = by-eq m 0 (λ q c. absurd (false≢true (sym (member-none k) �
 
 written-key : (σ : Store) (s k v : ℕ) → refusal σ 4 s k v ≡ 0 → k < keys
 unfolding refusal ruleOf
-written-key σ s k v e =
-    let a = asked-for (sessionThere σ s && ltb k keys) 3 _ (omega arith) e in
-    ltb-true k keys (and-true (sessionThere σ s) _ (a .0) .1)
+written-key σ s k v e = write-facts σ s k v e .key
 
 -- A write that is taken, of a key that the session does not write again before its end: what any later read shows of the transaction is that value,
 -- under the hall that the session ended at.
@@ -266,10 +265,9 @@ by-other s k code a b w e o =
 end-stops : (σ : Store) (s b c : ℕ) → refusal σ 5 s b c ≡ 0 → (b ≡ 0) × (c ≡ 0) × (after σ 5 s b c (Status s) ≡ running → ⊥)
 unfolding refusal after ruleOf
 end-stops σ s b c e =
-    let x = asked-for (sessionThere σ s && (unused b && unused c)) 3 _ (omega arith) e in
-    let y = and-true (unused b) _ (and-true (sessionThere σ s) _ (x .0) .1) in (
-      eqb-true b 0 (y .0),
-      eqb-true c 0 (y .1),
+    let f = end-alone σ s b c e in (
+      f .0,
+      f .1,
       by-test (hasWrites σ s)
           (λ w z. let z′ : _≡_ {A = ℕ} committing running = rw (eq-eqb _ _ e, w, eqb-refl s) at z in omega arith)
           (λ w z. let z′ : _≡_ {A = ℕ} idle running = rw (eq-eqb _ _ e, w, eqb-refl s) at z in omega arith),
@@ -322,18 +320,13 @@ module _ (σ : Store) where
   unfolding refusal after
   makes code a b c e =
       rw (eq-eqb _ _ e)
-      (by-number (Makes a) σ code a b c
-      (λ _. inl refl) (λ _. inl refl) (λ _. inl refl) (λ _. inl refl)
-      (λ _. by-test (hasWrites σ a) (λ w. inr (refl, w)) (λ w. inl (rw w)))
-      (λ _. inl refl) (λ _. inl refl) (λ _. inl refl) (λ _. inl refl) (λ _. inl refl)
-      (λ _. inl refl) (λ _. inl refl) (λ _. inl refl) (λ _. inl refl) (λ _. inl refl)
-      e)
+      (let same : (n : ℕ) (x : Rule) → x .after Transactions ≡ σ Transactions → Makes a n x = λ n x q _. inl q in
+      let ends : (y z : ℕ) → Makes a 5 (endRule σ a y z) = λ y z _. by-test (hasWrites σ a) (λ w. inr (refl, w)) (λ w. inl (rw w)) in
+      by-code (Makes a) σ code a b c (search (ends, same) depth 30) (λ _. inl refl) e)
 
 end-ran : (σ : Store) (s : ℕ) → refusal σ 5 s 0 0 ≡ 0 → σ (Status s) ≡ running
 unfolding refusal ruleOf
-end-ran σ s e =
-    let a = asked-for (sessionThere σ s && (unused 0 && unused 0)) 3 _ (omega arith) e in
-    eqb-true _ _ (asked-for (eqb (σ (Status s)) running) 7 _ (omega arith) (a .1) .0)
+end-ran σ s e = end-facts σ s 0 0 e .runs
 
 -- the transaction that an end makes
 made : {σ : Store} → Reached σ → (s k : ℕ) → refusal σ 5 s 0 0 ≡ 0 → hasWrites σ s ≡ true
@@ -385,11 +378,8 @@ written-by (Reached.onward {σ} r code a b c) t k l m =
 looks : (σ : Store) (s k h : ℕ) → refusal σ 3 s k h ≡ 0 → member (σ (WriteSet s)) k ≡ false → Looks σ s k h
 unfolding refusal ruleOf
 looks σ s k h e n =
-    let a = asked-for (sessionThere σ s && (ltb k keys && holds σ h (partitionOf σ k))) 3 _ (omega arith) e in
-    let b = asked-for (eqb (σ (Status s)) running) 7 _ (omega arith) (a .1) in
-    let c = and-true (sessionThere σ s) _ (a .0) in
-    let d = and-true (ltb k keys) _ (c .1) in
-    record { there = ltb-true _ _ (c .0); runs = eqb-true _ _ (b .0); key = ltb-true _ _ (d .0); holder = d .1; unwritten = n }
+    let f = read-facts σ s k h e in
+    record { there = f .there; runs = f .runs; key = f .key; holder = f .server; unwritten = n }
 
 -- What a read finds was written: by its session, which has not ended since; or it is a transaction's, and what that one's session wrote last to the key
 -- before it ended.

@@ -2,6 +2,7 @@
 use Prim.Native.Nat.{ℕ, suc, _-_, _≤_, _<_, _^_}
 use mathlib.Core.Bool.{Bool, true, false, cond, _&&_}
 use mathlib.Core.Path.{_≡_}
+use mathlib.Core.List.{_∷_}
 use native.Mathlib.Nat.{le-trans}
 use native.Mathlib.Omega.{arith}
 use lib.Dec.{eqb, ltb, leb}
@@ -11,7 +12,7 @@ use Rattle.book.specs.Cells.{Cell, Store, same, _⟨_≔_⟩, Halls, Partitions
 use Rattle.book.specs.Cases.{by-test, choose, by-eq, by-cell, and-true, unwritten, at-same}
 use Rattle.book.specs.Folds.{lowest-within, largest-within}
 use Rattle.book.specs.Sets.{member, include-lt}
-use Rattle.book.specs.Servers.{holds, holds-hall, writer}
+use Rattle.book.specs.Servers.{holds, holds-hall, writer, placeOf}
 use Rattle.book.specs.WellFormed.{timeBound}
 use Rattle.book.specs.Answers.{numbers}
 use Rattle.book.specs.SessionSteps.{snapshot, start, read, write, ask, readAnswer, touches, move}
@@ -19,7 +20,9 @@ use Rattle.book.specs.CommitSteps.{tick, proposal, prepare, decision, decide, c
 use Rattle.book.specs.ReplicationSteps.{preparedAt, hasPrepared, versionClock, hybridAfter, installs, sendsTo, outgoing, nextSlot, slotOf, install, deliver}
 use Rattle.book.specs.GossipSteps.{lowestEntry, report, lowestOf, share, lowestShared, stableAfter, learn}
 use Rattle.book.specs.Steps.{after}
-use Rattle.theorems.specs.Step.{Step, next}
+use Rattle.theorems.specs.Frame.{servers}
+use Rattle.theorems.specs.Facts.{room-left}
+use Rattle.theorems.specs.Step.{Step, Writing, Taken, over}
 use Rattle.theorems.specs.Tally.{prepared-le, prepared-lt}
 use Rattle.theorems.specs.Setup.{Setup, good-setup, server-small, move-good}
 use Rattle.theorems.specs.Formed.{All1, All2, All3, Times, Formed, writer-small}
@@ -275,19 +278,26 @@ module _ (σ : Store) (F : Formed σ) where
   move-formed : (s h p : ℕ) → holds σ h p ≡ true → Formed (move σ s h p)
   move-formed s h p e = let setup = move-good σ (F .setup) s h p e in search
 
-pub step-formed : (σ : Store) → Formed σ → (s : Step σ) → Formed (next σ s)
-step-formed σ F (Step.ticks h p x a b c) = tick-formed σ F h p x b
-step-formed σ F (Step.starts s a b) = start-formed σ F s a
-step-formed σ F (Step.reads s k h a b c d) = read-formed σ F s k h a b
-step-formed σ F (Step.writes s k v a b c d) = write-formed σ F s k v a b
-step-formed σ F (Step.asks s a b c d) = ask-formed σ F s a d
-step-formed σ F (Step.rests s a b c) = rest-formed σ F s
-step-formed σ F (Step.prepares t p a b c) = prepare-formed σ F t p a b c
-step-formed σ F (Step.decides t a b c) = decide-formed σ F t a
-step-formed σ F (Step.commits t p a b c d) = commit-formed σ F t p a b c
-step-formed σ F (Step.installs h p a b) = install-formed σ F h p a b
-step-formed σ F (Step.delivers p f g a b c d) = deliver-formed σ F p f g a b
-step-formed σ F (Step.reports h p a) = report-formed σ F h p a
-step-formed σ F (Step.shares f to a b) = share-formed σ F f to a
-step-formed σ F (Step.learns h p a) = learn-formed σ F h p a
-step-formed σ F (Step.moves s h p a b c) = move-formed σ F s h p b
+-- `Formed` reads most kinds
+step-writes : (σ : Store) → Formed σ → {τ : Store}
+    → Writing σ (Sessions ∷ Transactions ∷ Reading 0 0 ∷ Hybrid 0 0 ∷ Stable 0 0 ∷ Entry 0 0 0 ∷ HomeHall 0 ∷ HomePartition 0 ∷ Status 0 ∷ Snapshot 0
+    ∷ LastCommit 0 ∷ WriteSet 0 ∷ ReadSet 0 ∷ CacheTime 0 0 ∷ By 0 ∷ From 0 ∷ CommitTime 0 ∷ KeySet 0 ∷ State 0 0 ∷ Proposed 0 0
+    ∷ First 0 0 0 ∷ Waiting 0 0 0 ∷ ClockSent 0 0 0 0 ∷ Note 0 0 ∷ Shared 0 0 ∷ servers) τ → Formed τ
+step-writes σ F (Step.ticks h p x f) = tick-formed σ F h p x (f .most)
+step-writes σ F (Step.starts s f) = start-formed σ F s (f .there)
+step-writes σ F (Step.reads s k h f) = read-formed σ F s k h (f .there) (f .key)
+step-writes σ F (Step.writes s k v f) = write-formed σ F s k v (f .there) (f .key)
+step-writes σ F (Step.asks s f q) = ask-formed σ F s (f .there) (room-left σ s f q)
+step-writes σ F (Step.rests s f q) = rest-formed σ F s
+step-writes σ F (Step.prepares n p f) = prepare-formed σ F (placeOf n) p (f .there) (f .partition) (f .state)
+step-writes σ F (Step.decides n f) = decide-formed σ F (placeOf n) (f .there)
+step-writes σ F (Step.commits n p f) = commit-formed σ F (placeOf n) p (f .there) (f .partition) (f .state)
+step-writes σ F (Step.installs h p f) = install-formed σ F h p (f .server) (f .room)
+step-writes σ F (Step.delivers p f g w) = deliver-formed σ F p f g (w .sender) (w .receiver)
+step-writes σ F (Step.reports h p f) = report-formed σ F h p (f .server)
+step-writes σ F (Step.shares f to w) = share-formed σ F f to (w .sender)
+step-writes σ F (Step.learns h p f) = learn-formed σ F h p (f .server)
+step-writes σ F (Step.moves s h p f) = move-formed σ F s h p (f .server)
+
+pub step-formed : (σ : Store) → Formed σ → {τ : Store} → Taken σ τ → Formed τ
+step-formed σ F x = over Formed x (step-writes σ F) F

@@ -6,7 +6,7 @@ use mathlib.Core.Logic.{_⊎_, inl, inr}
 use native.Mathlib.Omega.{arith}
 use borrow.Author.Needs.{needs}
 use Rattle.book.specs.Cells.{Store}
-use Rattle.book.specs.Steps.{Rule, by-code, refusal}
+use Rattle.book.specs.Steps.{by-code, refusal}
 
 -- 0, or one of the table's from 3 to 12: 1 is for a room, and 2 for a setup
 abbrev pub InTable : ℕ → Type 0
@@ -26,7 +26,4 @@ last b n h l = rung b n 0 h l top
 pub in-table : (σ : Store) (code a b c : ℕ) → InTable (refusal σ code a b c)
 unfolding refusal
 in-table σ code a b c =
-    by-code (λ (r : Rule). InTable (r .refusal)) σ code a b c
-    (search (rung, last, needs)) (search (rung, last, needs)) (search (rung, last, needs)) (search (rung, last, needs)) (search (rung, last, needs))
-    (search (rung, last, needs)) (search (rung, last, needs)) (search (rung, last, needs)) (search (rung, last, needs)) (search (rung, last, needs))
-    (search (rung, last, needs)) (search (rung, last, needs)) (search (rung, last, needs)) (search (rung, last, needs)) (inr (omega arith, omega arith))
+    by-code (λ _ r. InTable (r .refusal)) σ code a b c (search (rung, last, needs) depth 60 fits 100000) (inr (omega arith, omega arith))

@@ -1,3 +1,5 @@
+pub mod Frame
+pub mod Facts
 pub mod Step
 pub mod Setup
 pub mod Formed
@@ -18,6 +20,8 @@ pub mod Transactions
 pub mod Begun
 pub mod Reach
 pub mod Writer
+pub mod TransactionKept
+pub mod Ever
 pub mod SnapshotRead
 pub mod LaterView
 pub mod ReadAnswer

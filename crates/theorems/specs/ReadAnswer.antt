@@ -2,27 +2,28 @@
 use Prim.Native.Nat.{ℕ, _<_}
 use mathlib.Core.Bool.{Bool, true, false, cond, _||_, true≢false, false≢true}
 use mathlib.Core.Path.{_≡_, sym, _∙_, ap}
+use mathlib.Core.List.{[], _∷_}
 use native.Mathlib.Omega.{arith}
 use lib.Dec.{eqb, ltb, leb}
 use borrow.Author.Tests.{eqb-true, leb-false, lt-ltb}
 use Rattle.book.specs.declared.Answer.{Answer}
 use Rattle.book.specs.declared.Answer.the-variants.{Own, Read}
 use Rattle.book.specs.Sizes.{keys}
-use Rattle.book.specs.Cells.{Store, same, Sessions, Status, idle, running, committing, Snapshot, WriteSet, ReadSet, WriteValue, ReadValue, CacheValue, CacheTime, By}
+use Rattle.book.specs.Cells.{Store, same, Sessions, Status, idle, running, committing, Snapshot, WriteSet, ReadSet, WriteValue, ReadValue, CacheValue, CacheTime, By, From, CommitTime, KeySet, Value}
 use Rattle.book.specs.Cases.{by-test, by-eq, unwritten}
 use Rattle.book.specs.Sets.{member, member-none, member-include}
 use Rattle.book.specs.declared.Numbers.{Numbers}
 use Rattle.book.specs.Answers.{triple, numbers}
-use Rattle.book.specs.Servers.{holds, partitionOf}
+use Rattle.book.specs.Servers.{holds, partitionOf, placeOf}
 use Rattle.book.specs.Views.{decidedView}
 use Rattle.book.specs.SessionSteps.{snapshot, start, readAnswer, read, write}
 use Rattle.book.specs.Steps.{ruleOf, refusal, answer, view-taken}
 use Rattle.book.specs.Reached.{Reached}
-use Rattle.theorems.specs.Step.{Step, next, by-reached}
+use Rattle.theorems.specs.Step.{Step, Writing, over, by-reached}
 use Rattle.theorems.specs.Inv.{Inv}
 use Rattle.theorems.specs.Reach.{reached-inv}
 use Rattle.theorems.specs.SnapshotRead.{held-decided}
-use Rattle.theorems.specs.LaterView.{step-view}
+use Rattle.theorems.specs.LaterView.{ask-view, decide-view}
 
 -- what a session finds past its write set and its read set: its cached write, else all that is decided at or below its snapshot
 abbrev pub found : Store → ℕ → ℕ → Answer
@@ -91,31 +92,26 @@ module _ (σ : Store) (I : Inv σ) (R : Reads σ) where
       (λ q c. rw c (R s k kb (rw c at st) (rw c at w) (rw c at i)))
 
   -- a running session's view stays, and its sets stay
-  step-reads : (x : Step σ) → Reads (next σ x)
-  step-reads (Step.ticks h p x a b c) = R
-  step-reads (Step.starts s a b) = start-reads s
-  step-reads (Step.reads s k h a b c d) = read-reads s k h c
-  step-reads (Step.writes s k v a b c d) = write-reads s k v
-  step-reads (Step.asks s₀ a b c d) = λ s k kb st w i.
-      rw (step-view σ I (σ (Snapshot s)) (I .gossip .snapshot s) (Step.asks s₀ a b c d) k kb)
+  step-reads : {τ : Store}
+      → Writing σ (Status 0 ∷ Snapshot 0 ∷ WriteSet 0 ∷ ReadSet 0 ∷ ReadValue 0 0 ∷ CacheValue 0 0 ∷ CacheTime 0 0
+      ∷ From 0 ∷ CommitTime 0 ∷ KeySet 0 ∷ Value 0 0 ∷ []) τ → Reads τ
+  step-reads (Step.starts s f) = start-reads s
+  step-reads (Step.reads s k h f) = read-reads s k h (f .server)
+  step-reads (Step.writes s k v f) = write-reads s k v
+  step-reads (Step.asks s₀ f q) = λ s k kb st w i.
+      rw (ask-view σ I (σ (Snapshot s)) (I .gossip .snapshot s) s₀ k)
       (R s k kb (unwritten (same (Status s₀) (Status s)) committing (σ (Status s)) running (λ x. omega arith) st .1) w i)
-  step-reads (Step.rests s₀ a b c) = λ s k kb st w i.
+  step-reads (Step.rests s₀ f q) = λ s k kb st w i.
       R s k kb (unwritten (same (Status s₀) (Status s)) idle (σ (Status s)) running (λ x. omega arith) st .1) w i
-  step-reads (Step.prepares t p a b c) = R
-  step-reads (Step.decides t a b c) = λ s k kb st w i.
-      by-eq (σ (By t)) s
+  step-reads (Step.decides n f) = λ s k kb st w i.
+      by-eq (σ (By (placeOf n))) s
       (λ q e. let n = rw e at st in absurd (omega arith))
-      (λ q e. rw (step-view σ I (σ (Snapshot s)) (I .gossip .snapshot s) (Step.decides t a b c) k kb, e) (R s k kb (rw e at st) (rw e at w) i))
-  step-reads (Step.commits t p a b c d) = R
-  step-reads (Step.installs h p a b) = R
-  step-reads (Step.delivers p f g a b c d) = R
-  step-reads (Step.reports h p a) = R
-  step-reads (Step.shares f to a b) = R
-  step-reads (Step.learns h p a) = R
-  step-reads (Step.moves s h p a b c) = R
+      (λ q e. rw (decide-view σ I (σ (Snapshot s)) (I .gossip .snapshot s) (placeOf n) k kb (f .undecided) (f .states), e)
+      (R s k kb (rw e at st) (rw e at w) i))
 
 reached-reads : {σ : Store} → Reached σ → Reads σ
-reached-reads = by-reached Reads (λ masks homes z s k kb st w i. absurd (omega arith)) (λ σ r R x. step-reads σ (reached-inv r) R x)
+reached-reads =
+    by-reached Reads (λ masks homes z s k kb st w i. absurd (omega arith)) (λ σ r R τ x. over Reads x (step-reads σ (reached-inv r) R) R)
 
 -- Every read of a running session of a reached store is taken where the hall holds the key, and answers the session's own write of this
 -- transaction, else its cached write, else the merge of all that is decided at or below its snapshot. Neither the hall nor the read set matters.
@@ -134,32 +130,21 @@ read-answer {σ} r s k h there runs kb e =
 abbrev pub Cached : Store → Type 0
 Cached σ = (s k : ℕ) → σ (Status s) ≡ running → 0 < σ (CacheTime s k) → σ (Snapshot s) < σ (CacheTime s k)
 
-step-cached : (σ : Store) (x : Step σ) → Cached σ → Cached (next σ x)
-step-cached σ (Step.ticks h p x a b c) C = C
-step-cached σ (Step.starts s₀ a b) C = λ s k st i.
+step-cached : (σ : Store) → Cached σ → {τ : Store} → Writing σ (Status 0 ∷ Snapshot 0 ∷ CacheTime 0 0 ∷ []) τ → Cached τ
+step-cached σ C (Step.starts s₀ f) = λ s k st i.
     by-eq s₀ s
     (λ q e. by-test (leb (σ (CacheTime s k)) (snapshot σ s₀))
     (λ l. let n = rw (e, l) at i in absurd (omega arith))
     (λ l. rw (e, l) (leb-false (σ (CacheTime s k)) (snapshot σ s₀) l)))
     (λ q e. rw e (C s k (rw e at st) (rw e at i)))
-step-cached σ (Step.reads s k h a b c d) C = C
-step-cached σ (Step.writes s k v a b c d) C = C
-step-cached σ (Step.asks s₀ a b c d) C = λ s k st.
+step-cached σ C (Step.asks s₀ f q) = λ s k st.
     C s k (unwritten (same (Status s₀) (Status s)) committing (σ (Status s)) running (λ x. omega arith) st .1)
-step-cached σ (Step.rests s₀ a b c) C = λ s k st.
+step-cached σ C (Step.rests s₀ f q) = λ s k st.
     C s k (unwritten (same (Status s₀) (Status s)) idle (σ (Status s)) running (λ x. omega arith) st .1)
-step-cached σ (Step.prepares t p a b c) C = C
-step-cached σ (Step.decides t a b c) C = λ s k st i.
-    by-eq (σ (By t)) s
+step-cached σ C (Step.decides n f) = λ s k st i.
+    by-eq (σ (By (placeOf n))) s
     (λ q e. let n = rw e at st in absurd (omega arith))
     (λ q e. rw e (C s k (rw e at st) (rw e at i)))
-step-cached σ (Step.commits t p a b c d) C = C
-step-cached σ (Step.installs h p a b) C = C
-step-cached σ (Step.delivers p f g a b c d) C = C
-step-cached σ (Step.reports h p a) C = C
-step-cached σ (Step.shares f to a b) C = C
-step-cached σ (Step.learns h p a) C = C
-step-cached σ (Step.moves s h p a b c) C = C
 
 pub reached-cached : {σ : Store} → Reached σ → Cached σ
-reached-cached = by-reached Cached (λ masks homes z s k st i. absurd (omega arith)) (λ σ r C x. step-cached σ x C)
+reached-cached = by-reached Cached (λ masks homes z s k st i. absurd (omega arith)) (λ σ r C τ x. over Cached x (step-cached σ C) C)

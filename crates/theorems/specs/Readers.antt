@@ -21,12 +21,14 @@ use Rattle.book.specs.ReplicationSteps.{sendsTo, outgoing}
 use Rattle.book.specs.Refusals.{transactionThere, allPrepared}
 use Rattle.book.specs.Steps.{ruleOf, refusal, after, startRule, readRule, writeRule, endRule, prepareRule, decideRule, commitRule, deliverRule}
 use Rattle.book.specs.Reached.{Reached}
-use Rattle.theorems.specs.Step.{Step, next, by-reached}
+use Rattle.theorems.specs.Frame.{servers}
+use Rattle.theorems.specs.Step.{Step, Writing, over, by-reached}
 use Rattle.theorems.specs.Inv.{Inv}
 use Rattle.theorems.specs.Formed.{formed}
 use Rattle.theorems.specs.Pairs.{reached-stated}
 use Rattle.theorems.specs.WellFormedKept.{reached-well-formed}
 use Rattle.theorems.specs.Sent.{sendsTo-is, outgoing-is}
+use Rattle.theorems.specs.Ever.{decision-some}
 use Rattle.theorems.specs.Reach.{reached-inv}
 use Rattle.theorems.specs.OwnWrites.{reached-own}
 use Rattle.theorems.specs.Calls.{Call, call, refusalOf, afterOf, run, AllTaken, by-rule, run-append, taken-append}
@@ -141,13 +143,9 @@ module _ {σ : Store} (r : Reached σ) where
         × (0 < after σ 7 (numberOf t) 0 0 (CommitTime t))
         × (after σ 7 (numberOf t) 0 0 (Status (σ (By t))) ≡ idle)
     decide-taken =
-        let F = formed σ (reached-well-formed r) in
-        let x = reached-own r .some t there in
-        let e = done (x .0) (pair-there r t (x .0) (x .2) .2) in
-        let y = F .prepared t (x .0) (le-trans there (F .places)) (x .1) e in
-        let z = largest-ge partitionsMax (λ p. eqb (σ (State t p)) prepared) (λ p. σ (Proposed t p)) (x .0) (x .1) (eq-eqb (σ (State t (x .0))) prepared e) in
+        let z = decision-some r t there (λ p _. by-eq (σ (State t p)) 0 (λ q _. inl q) (λ q _. inr (done p (pair-there r t p (omega arith) .2)))) in
         let w = decides in
-        (w .0, rw (w .1, eqb-refl t) (omega arith), rw (w .1, eqb-refl (σ (By t))))
+        (w .0, rw (w .1, eqb-refl t) z, rw (w .1, eqb-refl (σ (By t))))
 
   -- A decided pair that is still prepared can be committed.
   pub commit-taken : (t p : ℕ) → σ (State t p) ≡ prepared → 0 < σ (CommitTime t)
@@ -198,27 +196,16 @@ module _ (σ : Store) (I : Inv σ) (W : Waits σ) where
       (λ e d. absurd (q (rw (e .i) (w .1 .by))))
       (λ d. (w .0, record { there = w .1 .there; by = w .1 .by; undecided = rw d (w .1 .undecided) })))
 
-  step-waits : (x : Step σ) → Waits (next σ x)
-  step-waits (Step.ticks h p x a b c) = W
-  step-waits (Step.starts s₀ a b) = λ s st. W s (unwritten (same (Status s₀) (Status s)) running (σ (Status s)) committing (λ x. omega arith) st .1)
-  step-waits (Step.reads s k h a b c d) = W
-  step-waits (Step.writes s k v a b c d) = W
-  step-waits (Step.asks s₀ a b c d) = ask-waits s₀
-  step-waits (Step.rests s₀ a b c) = λ s st. W s (unwritten (same (Status s₀) (Status s)) idle (σ (Status s)) committing (λ x. omega arith) st .1)
-  step-waits (Step.prepares t p a b c) = W
-  step-waits (Step.decides t a b c) = decide-waits t
-  step-waits (Step.commits t p a b c d) = W
-  step-waits (Step.installs h p a b) = W
-  step-waits (Step.delivers p f g a b c d) = W
-  step-waits (Step.reports h p a) = W
-  step-waits (Step.shares f to a b) = W
-  step-waits (Step.learns h p a) = W
-  step-waits (Step.moves s h p a b c) = W
+  step-waits : {τ : Store} → Writing σ (Status 0 ∷ Transactions ∷ By 0 ∷ CommitTime 0 ∷ []) τ → Waits τ
+  step-waits (Step.starts s₀ f) = λ s st. W s (unwritten (same (Status s₀) (Status s)) running (σ (Status s)) committing (λ x. omega arith) st .1)
+  step-waits (Step.asks s₀ f q) = ask-waits s₀
+  step-waits (Step.rests s₀ f q) = λ s st. W s (unwritten (same (Status s₀) (Status s)) idle (σ (Status s)) committing (λ x. omega arith) st .1)
+  step-waits (Step.decides n f) = decide-waits (placeOf n)
 
 -- A committing session waits for a transaction of its own that is undecided, and for no other.
 pub awaits : {σ : Store} → Reached σ → (s : ℕ) → σ (Status s) ≡ committing → (t : ℕ) × Awaits σ s t × ((u : ℕ) → Awaits σ s u → u ≡ t)
 awaits {σ} r s st =
-    let w = by-reached Waits (λ masks homes e s st. absurd (omega arith)) (λ σ r W x. step-waits σ (reached-inv r) W x) r s st in
+    let w = by-reached Waits (λ masks homes e s st. absurd (omega arith)) (λ σ r W τ x. over Waits x (step-waits σ (reached-inv r) W) W) r s st in
     let A = w .1 in
     (w .0, A, λ u B. reached-own r .one u (w .0) (B .there) (A .there) (B .by ∙ sym (A .by)) (B .undecided) (A .undecided))
 
@@ -389,36 +376,23 @@ readers-exist {σ} r s k there kb =
 abbrev Between : Store → Type 0
 Between σ = (g p f : ℕ) → 0 < σ (Waiting g p f) → (holds σ f p ≡ true) × (holds σ g p ≡ true) × (f ≡ g → ⊥)
 
-step-between : (σ : Store) → Between σ → (x : Step σ) → Between (next σ x)
-step-between σ B (Step.ticks h p x a b c) = B
-step-between σ B (Step.starts s a b) = B
-step-between σ B (Step.reads s k h a b c d) = B
-step-between σ B (Step.writes s k v a b c d) = B
-step-between σ B (Step.asks s a b c d) = B
-step-between σ B (Step.rests s a b c) = B
-step-between σ B (Step.prepares t p a b c) = B
-step-between σ B (Step.decides t a b c) = B
-step-between σ B (Step.commits t p a b c d) = B
-step-between σ B (Step.installs h p there room) = λ g q f l.
+step-between : (σ : Store) → Between σ → {τ : Store} → Writing σ (Waiting 0 0 0 ∷ servers) τ → Between τ
+step-between σ B (Step.installs h p w) = λ g q f l.
     by-test (outgoing σ h p g q f)
     (λ c. let o = outgoing-is σ h p g q f c in
     let x = sendsTo-is σ h p g (o .2) in
-    rw (← o .0, ← o .1) (there, x .1, x .0))
+    rw (← o .0, ← o .1) (w .server, x .1, x .0))
     (λ c. B g q f (rw c at l))
-step-between σ B (Step.delivers p f g a b c d) = λ g′ q f′ l.
+step-between σ B (Step.delivers p f g w) = λ g′ q f′ l.
     by-cell (Waiting g p f) (Waiting g′ q f′)
-    (λ e x. rw (← e .i, ← e .j, ← e .k) (a, b, c))
+    (λ e x. rw (← e .i, ← e .j, ← e .k) (w .sender, w .receiver, w .apart))
     (λ x. B g′ q f′ (rw x at l))
-step-between σ B (Step.reports h p a) = B
-step-between σ B (Step.shares f to a b) = B
-step-between σ B (Step.learns h p a) = B
-step-between σ B (Step.moves s h p a b c) = B
 
 -- Each message that waits can be delivered.
 pub deliver-taken : {σ : Store} → Reached σ → (p f g : ℕ) → 0 < σ (Waiting g p f) → refusal σ 10 p f g ≡ 0
 unfolding ruleOf
 deliver-taken {σ} r p f g l =
-    let w = by-reached Between (λ masks homes e g p f l. absurd (omega arith)) (λ σ r. step-between σ) r g p f l in
+    let w = by-reached Between (λ masks homes e g p f l. absurd (omega arith)) (λ σ r B τ x. over Between x (step-between σ B) B) r g p f l in
     by-rule σ (call 10 p f g) (deliverRule σ p f g) refl
     (rw (w .0, w .1, ne-eqb f g (w .2), ne-eqb (σ (Waiting g p f)) 0 (λ e. omega arith))) .0
 

@@ -15,9 +15,8 @@ use Rattle.book.specs.Servers.{holds, partitionOf, writer}
 use Rattle.book.specs.ReplicationSteps.{versionClock, installs, numberInstalled, isQuiet, sendsTo, outgoing, slotOf, nextSlot, install}
 use Rattle.theorems.specs.Inv.{clockAt, setAt, Channels, Holding, Writes, Inv}
 use Rattle.theorems.specs.Setup.{server-small}
-use Rattle.theorems.specs.Gossip.{grow-gossip}
 use Rattle.theorems.specs.Clocks.{state-stays}
-use Rattle.theorems.specs.Install.{installs-is, has-place, install-other, installs-above, clock-grows, install-grown, install-clocks, install-states}
+use Rattle.theorems.specs.Install.{installs-is, has-place, install-other, installs-above, clock-grows, install-grown}
 
 -- slots of one ring: the next is none of those in use
 slot-old : (a i c : ℕ) → i < c → c < slots → eqb ((a + c) % slots) ((a + i) % slots) ≡ false
@@ -163,7 +162,7 @@ module _ (σ : Store) (I : Inv σ) (h p : ℕ) (room : (g : ℕ) → g < hallsMa
   count-grows : (g q f : ℕ) → σ (Waiting g q f) ≤ install σ h p (Waiting g q f)
   count-grows g q f = by-test (outgoing σ h p g q f) (λ c. rw c (omega arith)) (λ c. rw c (omega arith))
 
-  install-holding : Holding (install σ h p)
+  pub install-holding : Holding (install σ h p)
   install-holding = record {
     home = λ t p′ e.
         by-test (eqb p p′ && installs σ h p t)
@@ -197,19 +196,8 @@ module _ (σ : Store) (I : Inv σ) (h p : ℕ) (room : (g : ℕ) → g < hallsMa
         (λ c. I .holding .done h′ p′ t (rw c at e));
   }
 
-  install-writes : Writes (install σ h p)
+  pub install-writes : Writes (install σ h p)
   install-writes = record {
     from = I .writes .from;
     written = λ t k b e. state-stays (eqb p (partitionOf σ k) && installs σ h p t) installed _ (omega arith) (I .writes .written t k b e);
-  }
-
-  pub install-inv : Inv (install σ h p)
-  install-inv = record {
-    setup = I .setup;
-    clocks = install-clocks σ I h p;
-    states = install-states σ I h p;
-    channels = install-channels;
-    holding = install-holding;
-    gossip = grow-gossip σ _ (I .gossip) (install-grown σ I h p);
-    writes = install-writes;
   }

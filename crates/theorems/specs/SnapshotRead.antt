@@ -17,10 +17,12 @@ use Rattle.book.specs.Servers.{holds, partitionOf, writer}
 use Rattle.book.specs.Views.{mergeAll, version, decided, wroteBy, decidedView, versionsOf, heldView}
 use Rattle.book.specs.Steps.{ruleOf, refusal, answer}
 use Rattle.book.specs.Reached.{Reached}
+use Rattle.book.specs.History.{everView, decidedEver}
 use Rattle.theorems.specs.Inv.{Inv, Below}
 use Rattle.theorems.specs.Setup.{server-small}
 use Rattle.theorems.specs.Writer.{writer-holds}
 use Rattle.theorems.specs.Reach.{reached-inv}
+use Rattle.theorems.specs.Ever.{ever-decided}
 
 -- merges over the same transactions, with the same versions
 pub mergeAll-agree : (n : ℕ) (ok ok′ : ℕ → Bool) (f f′ : ℕ → View)
@@ -88,14 +90,14 @@ Fetches σ s k h = record {
   uncached : σ (CacheTime s k) ≡ 0;
 }
 
--- Such a read of a reached store is taken, at any hall that holds the key, and answers the merge of all that is decided with a commit time at or
--- below the session's snapshot.
-pub snapshot-read : {σ : Store} → Reached σ → (s k h : ℕ) → Fetches σ s k h
-    → (refusal σ 3 s k h ≡ 0) × (answer σ 3 s k h ≡ Read (decidedView σ k (σ (Snapshot s))))
+-- Such a read of a reached store is taken, at any hall that holds the key, and answers the merge of all that was decided so far with a commit time at
+-- or below the session's snapshot.
+pub snapshot-read : {σ : Store} (r : Reached σ) (s k h : ℕ) → Fetches σ s k h
+    → (refusal σ 3 s k h ≡ 0) × (answer σ 3 s k h ≡ Read (everView (decidedEver r) k (σ (Snapshot s))))
 unfolding refusal answer ruleOf
 snapshot-read {σ} r s k h f =
     let I = reached-inv r in
-    let x = held-decided σ I (σ (Snapshot s)) (I .gossip .snapshot s) k h (f .key) (f .holder) in
+    let x = held-decided σ I (σ (Snapshot s)) (I .gossip .snapshot s) k h (f .key) (f .holder) ∙ sym (ever-decided r k (σ (Snapshot s))) in
     let l = lt-ltb k keys (f .key) in (
       rw (f .there, l, f .holder, f .runs),
       rw (f .there, l, f .holder, f .runs, f .unwritten, f .unread, f .uncached, x),

@@ -8,7 +8,7 @@ use Rattle.book.specs.Cells.{Cell, Store, same, Reading, Hybrid, Stable, Entry,
 use Rattle.book.specs.Cases.{by-test, by-cell, by-eq}
 use Rattle.book.specs.Servers.{writer, placeOf}
 use Rattle.book.specs.SessionSteps.{hasWrites}
-use Rattle.book.specs.Steps.{Rule, by-number, refusal, after, tickRule, startRule, endRule, prepareRule, commitRule, installRule, deliverRule, learnRule}
+use Rattle.book.specs.Steps.{Rule, by-code, _also_, refusal, after, tickRule, startRule, endRule, prepareRule, commitRule, installRule, deliverRule, learnRule}
 
 abbrev isServer : ℕ → ℕ → ℕ → ℕ → Bool
 isServer x y h p = eqb x h && eqb y p
@@ -101,9 +101,21 @@ unfolding refusal after
 own-stretch σ code a b c h p e =
     by-eq (refusal σ code a b c) 0
     (λ q f. rw f
-    (by-number (Elsewhere σ h p a b c) σ code a b c
-    (tick-apart σ h p a b c) (start-apart σ h p a b c) (λ _. stays σ h p) (λ _. stays σ h p) (end-apart σ h p a b c)
-    (prepare-apart σ h p a b c) (λ _. stays σ h p) (commit-apart σ h p a b c) (install-apart σ h p a b c) (deliver-apart σ h p a b c)
-    (λ _. stays σ h p) (λ _. stays σ h p) (learn-apart σ h p a b c) (λ _. stays σ h p) (λ _. stays σ h p)
-    e))
+    (by-code (Elsewhere σ h p a b c) σ code a b c
+    (tick-apart σ h p a b c
+    also start-apart σ h p a b c
+    also (λ _. stays σ h p)
+    also (λ _. stays σ h p)
+    also end-apart σ h p a b c
+    also prepare-apart σ h p a b c
+    also (λ _. stays σ h p)
+    also commit-apart σ h p a b c
+    also install-apart σ h p a b c
+    also deliver-apart σ h p a b c
+    also (λ _. stays σ h p)
+    also (λ _. stays σ h p)
+    also learn-apart σ h p a b c
+    also (λ _. stays σ h p)
+    also tt)
+    (λ _. stays σ h p) e))
     (λ q f. rw f (stays σ h p))

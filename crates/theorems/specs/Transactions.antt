@@ -1,5 +1,5 @@
 -- The steps of a transaction: the rest of what they keep.
-use Prim.Native.Nat.{ℕ, _<_}
+use Prim.Native.Nat.{ℕ, _≤_, _<_}
 use mathlib.Core.Bool.{true, _&&_}
 use mathlib.Core.Path.{_≡_}
 use mathlib.Core.Logic.{_⊎_}
@@ -7,15 +7,15 @@ use native.Mathlib.Nat.{le-trans}
 use native.Mathlib.Omega.{arith}
 use lib.Dec.{eqb}
 use Rattle.book.specs.Sizes.{partitionsMax, keys, placesMax}
-use Rattle.book.specs.Cells.{Store, same, _⟨_≔_⟩, Partitions, Sessions, Transactions, HomeHall, WriteSet, From, CommitTime, State, asked, prepared, waiting, installed}
+use Rattle.book.specs.Cells.{Store, same, _⟨_≔_⟩, Sessions, Transactions, HomeHall, WriteSet, From, CommitTime, State, prepared, installed}
 use Rattle.book.specs.Cases.{by-test, eqb-refl, unwritten}
 use Rattle.book.specs.Folds.{any-i}
 use Rattle.book.specs.Sets.{member}
 use Rattle.book.specs.Servers.{holds-hall, partitionOf}
 use Rattle.book.specs.SessionSteps.{touches, ask}
-use Rattle.book.specs.CommitSteps.{prepare, decide, commit}
-use Rattle.theorems.specs.Inv.{Holding, Writes, Inv}
-use Rattle.theorems.specs.Clocks.{state-stays, prepare-clocks, prepare-states, commit-clocks, commit-states, decide-grows, decide-clocks, decide-states, ask-other, ask-old, ask-clocks, ask-states}
+use Rattle.book.specs.CommitSteps.{decide}
+use Rattle.theorems.specs.Inv.{Channels, Holding, Writes, Inv}
+use Rattle.theorems.specs.Clocks.{state-stays, decide-grows, ask-other, ask-old}
 
 -- a set that has key k has one of k's partition
 pub touches-i : (σ : Store) (m k : ℕ) → k < keys → member m k ≡ true → touches σ m (partitionOf σ k) ≡ true
@@ -25,75 +25,45 @@ touches-i σ m k b e =
 module _ (σ : Store) (I : Inv σ) where
   -- Prepare and Commit: a pair's state becomes v, which is neither none nor installed
   module _ (t p v : ℕ) (some : 0 < v) (other : v ≡ installed → ⊥) where
-    state-holding : Holding (σ ⟨ State t p ≔ v ⟩)
+    pub state-holding : Holding (σ ⟨ State t p ≔ v ⟩)
     state-holding = record {
       home = λ t′ p′ e. I .holding .home t′ p′ (unwritten (same (State t p) (State t′ p′)) v _ installed other e .1);
       away = λ t′ p′ g e. I .holding .away t′ p′ g (unwritten (same (State t p) (State t′ p′)) v _ installed other e .1);
       done = I .holding .done;
     }
 
-    state-writes : Writes (σ ⟨ State t p ≔ v ⟩)
+    pub state-writes : Writes (σ ⟨ State t p ≔ v ⟩)
     state-writes = record {
       from = I .writes .from;
       written = λ t′ k b e. state-stays (same (State t p) (State t′ (partitionOf σ k))) v _ some (I .writes .written t′ k b e);
     }
 
-  pub prepare-inv : (t p : ℕ) → t < σ Transactions → p < σ Partitions → σ (State t p) ≡ asked → Inv (prepare σ t p)
-  prepare-inv t p tb pb e =
-      let p4 = le-trans pb (I .setup .partitions) in
-      record {
-        setup = I .setup;
-        clocks = prepare-clocks σ I t p tb p4 e;
-        states = prepare-states σ I t p tb p4 e;
-        channels = I .channels;
-        holding = state-holding t p prepared (omega arith) (λ x. omega arith);
-        gossip = I .gossip;
-        writes = state-writes t p prepared (omega arith) (λ x. omega arith);
-      }
-
-  pub commit-inv : (t p : ℕ) → t < σ Transactions → p < σ Partitions → σ (State t p) ≡ prepared → 0 < σ (CommitTime t) → Inv (commit σ t p)
-  commit-inv t p tb pb e d =
-      let p4 = le-trans pb (I .setup .partitions) in
-      record {
-        setup = I .setup;
-        clocks = commit-clocks σ I t p tb p4 e d;
-        states = commit-states σ I t p tb p4 e d;
-        channels = I .channels;
-        holding = state-holding t p waiting (omega arith) (λ x. omega arith);
-        gossip = I .gossip;
-        writes = state-writes t p waiting (omega arith) (λ x. omega arith);
-      }
-
   module _ (t : ℕ) (tb : t < σ Transactions) (un : σ (CommitTime t) ≡ 0)
       (all : (p : ℕ) → p < partitionsMax → (σ (State t p) ≡ 0) ⊎ (σ (State t p) ≡ prepared)) where
-    pub decide-inv : Inv (decide σ t)
-    decide-inv =
-        let grows = decide-grows σ I t tb un all in
-        record {
-          setup = I .setup;
-          clocks = decide-clocks σ I t tb un all;
-          states = decide-states σ I t tb un all;
-          channels = record {
-            seen = I .channels .seen;
-            low = I .channels .low;
-            high = I .channels .high;
-            order = I .channels .order;
-            fresh = λ g p f i t′ n l e. le-trans (I .channels .fresh g p f i t′ n l e) (grows t′);
-            later = λ g p f i j t′ n l m e. le-trans (I .channels .later g p f i j t′ n l m e) (grows t′);
-            heard = I .channels .heard;
-            newest = I .channels .newest;
-          };
-          holding = record {
-            home = I .holding .home;
-            away = I .holding .away;
-            done = λ h p t′ e. le-trans (I .holding .done h p t′ e) (grows t′);
-          };
-          gossip = I .gossip;
-          writes = I .writes;
-        }
+    grows : (t′ : ℕ) → σ (CommitTime t′) ≤ decide σ t (CommitTime t′)
+    grows = decide-grows σ I t tb un all
+
+    pub decide-channels : Channels (decide σ t)
+    decide-channels = record {
+      seen = I .channels .seen;
+      low = I .channels .low;
+      high = I .channels .high;
+      order = I .channels .order;
+      fresh = λ g p f i t′ n l e. le-trans (I .channels .fresh g p f i t′ n l e) (grows t′);
+      later = λ g p f i j t′ n l m e. le-trans (I .channels .later g p f i j t′ n l m e) (grows t′);
+      heard = I .channels .heard;
+      newest = I .channels .newest;
+    }
+
+    pub decide-holding : Holding (decide σ t)
+    decide-holding = record {
+      home = I .holding .home;
+      away = I .holding .away;
+      done = λ h p t′ e. le-trans (I .holding .done h p t′ e) (grows t′);
+    }
 
   module _ (s : ℕ) (there : s < σ Sessions) (room : σ Transactions < placesMax) where
-    ask-holding : Holding (ask σ s)
+    pub ask-holding : Holding (ask σ s)
     ask-holding = record {
       home = λ t p e.
           let o = ask-old σ I s room t p installed (omega arith) e in
@@ -105,7 +75,7 @@ module _ (σ : Store) (I : Inv σ) where
       done = I .holding .done;
     }
 
-    ask-writes : Writes (ask σ s)
+    pub ask-writes : Writes (ask σ s)
     ask-writes = record {
       from = λ t.
           by-test (same (From (σ Transactions)) (From t))
@@ -115,15 +85,4 @@ module _ (σ : Store) (I : Inv σ) where
           by-test (eqb (σ Transactions) t)
           (λ c. rw (c, touches-i σ (σ (WriteSet s)) k b (rw c at e)) (omega arith))
           (λ c. rw c (I .writes .written t k b (rw c at e)));
-    }
-
-    pub ask-inv : Inv (ask σ s)
-    ask-inv = record {
-      setup = I .setup;
-      clocks = ask-clocks σ I s room;
-      states = ask-states σ I s room;
-      channels = I .channels;
-      holding = ask-holding;
-      gossip = I .gossip;
-      writes = ask-writes;
     }
