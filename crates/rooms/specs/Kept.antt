@@ -14,10 +14,10 @@ use Rattle.book.specs.Cases.{by-eq}
 use Rattle.book.specs.Servers.{holds}
 use Rattle.book.specs.ReplicationSteps.{isQuiet}
 use Rattle.book.specs.Reached.{Reached}
-use Rattle.theorems.specs.Formed.{All2, Times}
-use Rattle.theorems.specs.WellFormedKept.{reached-well-formed}
-use Rattle.theorems.specs.Bound.{bound}
-use Rattle.theorems.specs.Quiet.{quiet-install}
+use Rattle.bounds.specs.Formed.{All2, Times}
+use Rattle.bounds.specs.WellFormedKept.{reached-well-formed}
+use Rattle.bounds.specs.Bound.{bound}
+use Rattle.rounds.specs.Quiet.{quiet-install}
 use Rattle.room.specs.Layout.{size, store}
 use Rattle.store.specs.Face.{Stepped, sound, no-word}
 use Rattle.rooms.specs.Refused.{given, one-exactly}

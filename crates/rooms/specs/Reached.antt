@@ -15,7 +15,7 @@ use Rattle.book.specs.Setup.{setupRefusal, firstStore}
 use Rattle.book.specs.Answers.{numbers}
 use Rattle.book.specs.Steps.{refusal, after, answer, answer-refusal}
 use Rattle.book.specs.Reached.{Reached, Later}
-use Rattle.theorems.specs.WellFormedKept.{reached-well-formed}
+use Rattle.bounds.specs.WellFormedKept.{reached-well-formed}
 use Rattle.room.specs.Layout.{size, store}
 use Rattle.room.specs.Lay.{length-lay}
 use Rattle.setup.specs.Outcome.{Outcome, setupGiven, setupRoom, setupStore}

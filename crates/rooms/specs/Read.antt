@@ -10,10 +10,10 @@ use Rattle.book.specs.Cells.{Snapshot}
 use Rattle.book.specs.Answers.{viewNumbers, numbers}
 use Rattle.book.specs.Steps.{view-taken}
 use Rattle.book.specs.History.{Decided, everView, decidedAfter, decidedEver}
-use Rattle.theorems.specs.Reach.{reached-later}
-use Rattle.theorems.specs.Ever.{Ledger, ledger-view, ledger-none, ledger-step, ever-decided}
-use Rattle.theorems.specs.SnapshotRead.{Fetches, snapshot-read}
-use Rattle.theorems.specs.LaterView.{later-never-alters, later-read}
+use Rattle.invariant.specs.Reach.{reached-later}
+use Rattle.snapshots.specs.Ever.{Ledger, ledger-view, ledger-none, ledger-step, ever-decided}
+use Rattle.snapshots.specs.SnapshotRead.{Fetches, snapshot-read}
+use Rattle.snapshots.specs.LaterView.{later-never-alters, later-read}
 use Rattle.room.specs.Layout.{store}
 use Rattle.store.specs.Face.{Stepped}
 use Rattle.rooms.specs.Refused.{given}

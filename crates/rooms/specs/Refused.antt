@@ -16,7 +16,7 @@ use Rattle.book.specs.Cases.{by-test, by-eq, choose}
 use Rattle.book.specs.Answers.{triple, numbers}
 use Rattle.book.specs.Setup.{setupRefusal, setupAnswer}
 use Rattle.book.specs.Steps.{Rule, by-code, refusal, answer, refused-unchanged, answer-refusal}
-use Rattle.theorems.specs.Ladders.{in-table}
+use Rattle.facts.specs.Ladders.{in-table}
 use Rattle.room.specs.Layout.{size, store}
 use Rattle.setup.specs.Outcome.{Outcome, setupGiven}
 use Rattle.store.specs.Face.{Stepped, sound, stepAnswer, no-word}

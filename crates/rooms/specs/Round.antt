@@ -7,8 +7,8 @@ use Rattle.book.specs.declared.Answer.{Answer}
 use Rattle.book.specs.Sizes.{partitionsMax, placesMax}
 use Rattle.book.specs.Cells.{Store, Stable, State, prepared, Waiting}
 use Rattle.book.specs.Servers.{holds}
-use Rattle.theorems.specs.Calls.{Call, afterOf, AllTaken, EachOnce, run, run-append}
-use Rattle.theorems.specs.Round.{isChannel, atServer, withMessage, betweenHalls, lowestPresent, full-round}
+use Rattle.facts.specs.Calls.{Call, afterOf, AllTaken, EachOnce, run, run-append}
+use Rattle.rounds.specs.Round.{isChannel, atServer, withMessage, betweenHalls, lowestPresent, full-round}
 use Rattle.room.specs.Layout.{store}
 use Rattle.store.specs.Face.{Stepped}
 use Rattle.rooms.specs.Refused.{given}

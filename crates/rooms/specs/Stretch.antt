@@ -11,7 +11,7 @@ use Rattle.book.specs.declared.Answer.{Answer}
 use Rattle.book.specs.Sizes.{hallsMax, partitionsMax}
 use Rattle.book.specs.Cells.{Cell, cell, Store, Reading, Hybrid, Stable, Entry, Held}
 use Rattle.book.specs.Cases.{by-test, and-true}
-use Rattle.theorems.specs.Stretches.{isAt, SameStretch, own-stretch}
+use Rattle.progress.specs.Stretches.{isAt, SameStretch, own-stretch}
 use Rattle.room.specs.Layout.{at, Within, store, cellAt, stretch, start}
 use Rattle.room.specs.Words.{valid-within, covers, store-get}
 use Rattle.room.specs.Checked.{ofServer}

@@ -11,7 +11,7 @@ use Rattle.book.specs.Cases.{by-eq}
 use Rattle.book.specs.Answers.{triple, numbers}
 use Rattle.book.specs.Setup.{firstStore, setupRefusal, setupAnswer}
 use Rattle.book.specs.WellFormed.{wellFormed}
-use Rattle.theorems.specs.WellFormedKept.{setup-formed}
+use Rattle.bounds.specs.WellFormedKept.{setup-formed}
 use Rattle.room.specs.Layout.{size, store}
 use Rattle.room.specs.Lay.{lay, length-lay}
 use Rattle.setup.specs.Outcome.{Outcome}

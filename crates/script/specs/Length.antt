@@ -25,7 +25,7 @@ use Rattle.book.specs.Cases.{by-test}
 use Rattle.book.specs.Answers.{numbers}
 use Rattle.book.specs.Setup.{goodSetup, firstStore, setupRefusal, setupAnswer}
 use Rattle.book.specs.Steps.{refusal, after, answer, answer-refusal}
-use Rattle.theorems.specs.Ladders.{in-table}
+use Rattle.facts.specs.Ladders.{in-table}
 use Rattle.script.specs.Printout.{textMax, Outcome, only, lineOf, stop, refused, stepsFrom, countedFrom, setupFrom, sessionsFrom, hallsFrom, outcome}
 
 -- a line for setup and for each of 8,000 steps, and a script line

@@ -11,11 +11,11 @@ use Rattle.book.specs.Servers.{holds, partitionOf, placeOf}
 use Rattle.book.specs.SessionSteps.{hasWrites}
 use Rattle.book.specs.Refusals.{tickRefusal, startRefusal, readRefusal, writeRefusal, endRefusal, prepareRefusal, decideRefusal, commitRefusal, installRefusal, deliverRefusal, serverRefusal, shareRefusal, moveRefusal}
 use Rattle.book.specs.WellFormed.{wellFormed, timeBound}
-use Rattle.theorems.specs.Facts.{tick-facts, start-facts, read-facts, write-facts, end-facts, prepare-facts, decide-facts, commit-facts, install-facts, deliver-facts, server-facts, share-facts, move-facts}
-use Rattle.theorems.specs.Tally.{prepared-most}
-use Rattle.theorems.specs.Setup.{Setup, good-setup, server-small}
-use Rattle.theorems.specs.Formed.{Formed, Times, formed}
-use Rattle.theorems.specs.KeptSteps.{times-le}
+use Rattle.facts.specs.Facts.{tick-facts, start-facts, read-facts, write-facts, end-facts, prepare-facts, decide-facts, commit-facts, install-facts, deliver-facts, server-facts, share-facts, move-facts}
+use Rattle.facts.specs.Tally.{prepared-most}
+use Rattle.facts.specs.Setup.{Setup, good-setup, server-small}
+use Rattle.bounds.specs.Formed.{Formed, Times, formed}
+use Rattle.bounds.specs.KeptSteps.{times-le}
 use Rattle.ladders.specs.Sized.{Sized}
 use Rattle.views.specs.Partitions.{Parted}
 use Rattle.sessions.specs.Starting.{Homed}

@@ -1,5 +1,5 @@
 use mathlib.Core.Path.{sym, _∙_}
-use Rattle.theorems.specs.WellFormedKept.{well-formed-kept}
+use Rattle.bounds.specs.WellFormedKept.{well-formed-kept}
 use Rattle.room.specs.Layout.{store}
 use Rattle.store.specs.Granted.{sized, coordinated-all, timely}
 use Rattle.store.specs.Face.{turned-away, taken}

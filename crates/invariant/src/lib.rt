@@ -1,0 +1,1 @@
+// What every reached store has, and each step keeps: theorems only, in specs/.

@@ -1,0 +1,1 @@
+// Merging does not depend on order, grouping or repeats: theorems only, in specs/.

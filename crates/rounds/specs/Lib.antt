@@ -1,0 +1,4 @@
+pub mod Lag
+pub mod Quiet
+pub mod Round
+pub mod RoundLists
