@@ -16,6 +16,7 @@ ghost use Rattle.ladders.specs.Sized.{Sized};
 ghost use Rattle.ladders.specs.Full.{fullTo};
 use book::READING_MAX;
 use book::Reading;
+use book::Timestamp;
 use book::TxNumber;
 use book::VALUE_MAX;
 use room::COMMIT_TIME;
@@ -95,8 +96,8 @@ pub fn tick(room: &[u64], h: u64, p: u64, x: Reading) -> u64
     if !server_there(room, h, p) {
         return 3;
     }
-    let last = room::get(room, READING, h as usize, p as usize, 0, 0);
-    when(x.0 > READING_MAX, 4, when(x.0 < last, 5, 0))
+    let last = Reading(room::get(room, READING, h as usize, p as usize, 0, 0));
+    when(x.0 > READING_MAX, 4, when(x.0 < last.0, 5, 0))
 }
 
 pub fn start(room: &[u64], s: u64, y: u64, z: u64) -> u64
@@ -162,9 +163,9 @@ pub fn commit(room: &[u64], n: TxNumber, p: u64, z: u64) -> u64
         return 3;
     }
     let t = place_of(n);
-    let time = room::get(room, COMMIT_TIME, t, 0, 0, 0);
+    let time = Timestamp(room::get(room, COMMIT_TIME, t, 0, 0, 0));
     let state = room::get(room, STATE, t, p as usize, 0, 0);
-    when(!both(0 < time, state == 2), 9, 0)
+    when(!both(0 < time.0, state == 2), 9, 0)
 }
 
 pub fn decide(room: &[u64], n: TxNumber, y: u64, z: u64) -> u64
@@ -175,8 +176,8 @@ pub fn decide(room: &[u64], n: TxNumber, y: u64, z: u64) -> u64
         return 3;
     }
     let t = place_of(n);
-    let time = room::get(room, COMMIT_TIME, t, 0, 0, 0);
-    when(!both(all_prepared(room, t), !(0 < time)), 9, 0)
+    let time = Timestamp(room::get(room, COMMIT_TIME, t, 0, 0, 0));
+    when(!both(all_prepared(room, t), !(0 < time.0)), 9, 0)
 }
 
 pub fn install(room: &[u64], h: u64, p: u64, z: u64) -> u64

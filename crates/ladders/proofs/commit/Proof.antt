@@ -19,4 +19,4 @@ commit-spec = tie.close (tie.spec
     (λ c κs. let s = c .before .before .before .before .before in let a = and-true (transactionThere (store (s .args .room .now)) (s .args .n .0)) _ (sym (c .before .before .before .pair-there .ensures) ∙ not-false _ (c .before .before .if1 .left)) .1 in let q = ltb-true (s .args .p) (store (s .args .room .now) Partitions) (and-true (ltb (s .args .p) (store (s .args .room .now) Partitions)) _ a .0) in let m = s .pre .1 .partitions in search needs)
     (λ c κs. search needs)
     (λ c κs. search needs)
-    (λ c. rw (c .when .ensures, c .before .both .ensures, c .before .before .get2 .ensures, c .before .before .before .get .ensures, c .before .before .before .before .place-of .ensures .0, sym (c .before .before .before .before .before .before .pair-there .ensures) ∙ not-false _ (c .before .before .before .before .before .if1 .left))))
+    (λ c. rw (c .when .ensures, c .before .both .ensures, c .before .before .before .get2 .ensures, c .before .before .before .before .get .ensures, c .before .before .before .before .before .place-of .ensures .0, sym (c .before .before .before .before .before .before .before .pair-there .ensures) ∙ not-false _ (c .before .before .before .before .before .before .if1 .left))))

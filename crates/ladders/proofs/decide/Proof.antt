@@ -18,4 +18,4 @@ decide-spec = tie.close (tie.spec
     (λ c κs. search needs)
     (λ c κs. search needs)
     (λ c κs. search needs)
-    (λ c. rw (c .when .ensures, c .before .both3 .ensures, c .before .before .all-prepared .ensures, c .before .before .before .get .ensures, c .before .before .before .before .place-of .ensures .0, ← (c .before .before .before .before .before .before .before .before .transaction-there .ensures), ← (c .before .before .before .before .before .before .before .both .ensures), sym (c .before .before .before .before .before .before .both2 .ensures) ∙ not-false _ (c .before .before .before .before .before .if1 .left))))
+    (λ c. rw (c .when .ensures, c .before .both3 .ensures, c .before .before .before .all-prepared .ensures, c .before .before .before .before .get .ensures, c .before .before .before .before .before .place-of .ensures .0, ← (c .before .before .before .before .before .before .before .before .before .transaction-there .ensures), ← (c .before .before .before .before .before .before .before .before .both .ensures), sym (c .before .before .before .before .before .before .before .both2 .ensures) ∙ not-false _ (c .before .before .before .before .before .before .if1 .left))))

@@ -13,4 +13,4 @@ tick-spec = tie.close (tie.spec
     (λ c κs. let s = c .before .before .before in let e = server-in (store (s .args .room .now)) (s .pre .1) (s .args .h) (s .args .p) (sym (c .before .server-there .ensures) ∙ not-false _ (c .if1 .left)) in search needs)
     (λ c κs. search needs)
     (λ c κs. search needs)
-    (λ c. rw (c .when2 .ensures, c .before .when .ensures, c .before .before .before .before .get .ensures, sym (c .before .before .before .before .before .before .server-there .ensures) ∙ not-false _ (c .before .before .before .before .before .if1 .left))))
+    (λ c. rw (c .when2 .ensures, c .before .when .ensures, c .before .before .before .before .before .get .ensures, sym (c .before .before .before .before .before .before .before .server-there .ensures) ∙ not-false _ (c .before .before .before .before .before .before .if1 .left))))
