@@ -8,7 +8,7 @@ use Rattle.book.specs.Sets.{member-none}
 use Rattle.book.specs.Setup.{firstStore, setupRefusal}
 use Rattle.facts.specs.Setup.{good-setup}
 use Rattle.bounds.specs.WellFormedKept.{setup-good}
-use Rattle.invariant.specs.Inv.{Inv}
+use Rattle.invariant.specs.Inv.{Gossip, Inv}
 
 -- nothing is under way in a first store
 pub first-inv : (masks homes : List ℕ) → setupRefusal masks homes ≡ 0 → Inv (firstStore masks homes)
@@ -47,14 +47,17 @@ first-inv masks homes z =
         away = λ t p g e k n. absurd (omega arith);
         done = λ h p t e. absurd (omega arith);
       };
-      gossip = record {
-        note = λ h p g e. omega arith;
-        shared = λ to f p g e e′. omega arith;
-        stable = λ a b h p g e e′. omega arith;
-        snapshot = λ s h p g e e′. omega arith;
-      };
       writes = record {
         from = λ t. U .hall;
         written = λ t k b e. absurd (false≢true (sym (member-none k) ∙ e));
       };
     }
+
+-- nor was anything told
+pub first-gossip : (masks homes : List ℕ) → setupRefusal masks homes ≡ 0 → Gossip (firstStore masks homes)
+first-gossip masks homes z = record {
+  note = λ h p g e. omega arith;
+  shared = λ to f p g e e′. omega arith;
+  stable = λ a b h p g e e′. omega arith;
+  snapshot = λ s h p g e e′. omega arith;
+}

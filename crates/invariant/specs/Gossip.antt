@@ -14,65 +14,66 @@ use Rattle.book.specs.GossipSteps.{report, share, learn}
 use Rattle.facts.specs.Setup.{server-small}
 use Rattle.invariant.specs.Inv.{GossipOver, Gossip, Inv, Below}
 
-module _ (σ : Store) (I : Inv σ) where
+-- The rest of the invariant says nothing of gossip, and gossip needs no more of it than which servers there are.
+module _ (σ : Store) (I : Inv σ) (G : Gossip σ) where
   pub report-gossip : (h p : ℕ) → Gossip (report σ h p)
   report-gossip h p = record {
     note = λ h′ p′ g e.
         by-cell (Note h p) (Note h′ p′)
         (λ q c. rw (c, ← q .i, ← q .j) (lowest-le _ _ _ g (server-small σ (I .setup) g p′ e .0) (rw (q .j) e)))
-        (λ c. rw c (I .gossip .note h′ p′ g e));
-    shared = I .gossip .shared;
-    stable = I .gossip .stable;
-    snapshot = I .gossip .snapshot;
+        (λ c. rw c (G .note h′ p′ g e));
+    shared = G .shared;
+    stable = G .stable;
+    snapshot = G .snapshot;
   }
 
   pub share-gossip : (f to : ℕ) → Gossip (share σ f to)
   share-gossip f to = record {
-    note = I .gossip .note;
+    note = G .note;
     shared = λ to′ f′ p g e e′.
         by-cell (Shared to f) (Shared to′ f′)
         (λ q c. let b = lowest-le partitionsMax (λ p. holds σ f p) (λ p. σ (Note f p)) p (server-small σ (I .setup) f′ p e .1) (rw (q .j) e) in
-        let n = I .gossip .note f p g e′ in
+        let n = G .note f p g e′ in
         rw (c, ← q .j) (omega arith))
-        (λ c. rw c (I .gossip .shared to′ f′ p g e e′));
-    stable = I .gossip .stable;
-    snapshot = I .gossip .snapshot;
+        (λ c. rw c (G .shared to′ f′ p g e e′));
+    stable = G .stable;
+    snapshot = G .snapshot;
   }
 
   pub learn-gossip : (h p : ℕ) → Gossip (learn σ h p)
   learn-gossip h p = record {
-    note = I .gossip .note;
-    shared = I .gossip .shared;
+    note = G .note;
+    shared = G .shared;
     stable = λ a b h′ p′ g e e′.
         by-cell (Stable h p) (Stable a b)
         (λ q c. let b = lt-ltb h′ (σ Halls) (holds-hall σ h′ p′ e) in
         let l = lowest-le hallsMax (λ f. ltb f (σ Halls)) (λ f. σ (Shared h f)) h′ (server-small σ (I .setup) h′ p′ e .0) b in
-        let n = I .gossip .shared h h′ p′ g e e′ in
-        let o = I .gossip .stable h p h′ p′ g e e′ in
+        let n = G .shared h h′ p′ g e e′ in
+        let o = G .stable h p h′ p′ g e e′ in
         rw c (omega arith))
-        (λ c. rw c (I .gossip .stable a b h′ p′ g e e′));
-    snapshot = I .gossip .snapshot;
+        (λ c. rw c (G .stable a b h′ p′ g e e′));
+    snapshot = G .snapshot;
   }
 
   -- the S of a start is at most every entry of every server
   pub snapshot-below : (s : ℕ) → Below σ (snapshot σ s)
   snapshot-below s h p g e e′ =
-      let x = I .gossip .stable (σ (HomeHall s)) (σ (HomePartition s)) h p g e e′ in
-      let y = I .gossip .snapshot s h p g e e′ in
+      let x = G .stable (σ (HomeHall s)) (σ (HomePartition s)) h p g e e′ in
+      let y = G .snapshot s h p g e e′ in
       omega arith
 
   pub start-gossip : (s : ℕ) → Gossip (start σ s)
   start-gossip s = record {
-    note = I .gossip .note;
-    shared = I .gossip .shared;
+    note = G .note;
+    shared = G .shared;
     stable = λ a b h p g e e′.
         by-cell (atHome σ Stable s) (Stable a b)
         (λ q c. rw c (snapshot-below s h p g e e′))
-        (λ c. rw c (I .gossip .stable a b h p g e e′));
+        (λ c. rw c (G .stable a b h p g e e′));
     snapshot = λ s′ h p g e e′.
         by-cell (Snapshot s) (Snapshot s′)
         (λ q c. rw c (snapshot-below s h p g e e′))
-        (λ c. rw c (I .gossip .snapshot s′ h p g e e′));
+        (λ c. rw c (G .snapshot s′ h p g e e′));
   }
 
 -- entries that grow keep it

@@ -119,7 +119,6 @@ Inv σ = record {
   states : States σ;
   channels : Channels σ;
   holding : Holding σ;
-  gossip : Gossip σ;
   writes : Writes σ;
 }
 

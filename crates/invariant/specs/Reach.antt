@@ -18,7 +18,7 @@ use Rattle.invariant.specs.Install.{install-grown, install-clocks, insta
 use Rattle.invariant.specs.Sent.{install-channels, install-holding, install-writes}
 use Rattle.invariant.specs.Deliver.{deliver-grown, deliver-clocks, deliver-channels, deliver-holding}
 use Rattle.invariant.specs.Transactions.{state-holding, state-writes, decide-channels, decide-holding, ask-holding, ask-writes}
-use Rattle.invariant.specs.Begun.{first-inv}
+use Rattle.invariant.specs.Begun.{first-inv, first-gossip}
 
 -- group by group, over the steps that write a kind which it reads
 module _ (σ : Store) (I : Inv σ) where
@@ -56,14 +56,6 @@ module _ (σ : Store) (I : Inv σ) where
   step-holding (Step.installs h p f) = install-holding σ I h p (f .room)
   step-holding (Step.delivers p f g w) = deliver-holding σ I p f g (w .apart) (w .some)
 
-  step-gossip : {τ : Store} → Writing σ (Note 0 0 ∷ Shared 0 0 ∷ Stable 0 0 ∷ Snapshot 0 ∷ Entry 0 0 0 ∷ servers) τ → Gossip τ
-  step-gossip (Step.starts s f) = start-gossip σ I s
-  step-gossip (Step.installs h p f) = grow-gossip σ _ (I .gossip) (install-grown σ I h p)
-  step-gossip (Step.delivers p f g w) = grow-gossip σ _ (I .gossip) (deliver-grown σ I p f g (w .apart) (w .some))
-  step-gossip (Step.reports h p f) = report-gossip σ I h p
-  step-gossip (Step.shares f to w) = share-gossip σ I f to
-  step-gossip (Step.learns h p f) = learn-gossip σ I h p
-
   step-writes : {τ : Store} → Writing σ (Halls ∷ Partitions ∷ From 0 ∷ KeySet 0 ∷ State 0 0 ∷ []) τ → Writes τ
   step-writes (Step.asks s f q) = ask-writes σ I s (f .there) (room-left σ s f q)
   step-writes (Step.prepares n p f) = state-writes σ I (placeOf n) p prepared (omega arith) (λ x. omega arith)
@@ -77,7 +69,6 @@ module _ (σ : Store) (I : Inv σ) where
     states = over States x step-states (I .states);
     channels = over Channels x step-channels (I .channels);
     holding = over Holding x step-holding (I .holding);
-    gossip = over Gossip x step-gossip (I .gossip);
     writes = over Writes x step-writes (I .writes);
   }
 
@@ -87,6 +78,19 @@ reached-later r (Later.more w code a b c) = Reached.onward (reached-later r w) c
 
 pub reached-inv : {σ : Store} → Reached σ → Inv σ
 reached-inv = by-reached Inv first-inv (λ σ r I. step-inv σ I)
+
+-- what halls tell one another stands beside it
+step-gossip : (σ : Store) → Inv σ → Gossip σ → {τ : Store}
+    → Writing σ (Note 0 0 ∷ Shared 0 0 ∷ Stable 0 0 ∷ Snapshot 0 ∷ Entry 0 0 0 ∷ servers) τ → Gossip τ
+step-gossip σ I G (Step.starts s f) = start-gossip σ I G s
+step-gossip σ I G (Step.installs h p f) = grow-gossip σ _ G (install-grown σ I h p)
+step-gossip σ I G (Step.delivers p f g w) = grow-gossip σ _ G (deliver-grown σ I p f g (w .apart) (w .some))
+step-gossip σ I G (Step.reports h p f) = report-gossip σ I G h p
+step-gossip σ I G (Step.shares f to w) = share-gossip σ I G f to
+step-gossip σ I G (Step.learns h p f) = learn-gossip σ I G h p
+
+pub reached-gossip : {σ : Store} → Reached σ → Gossip σ
+reached-gossip = by-reached Gossip first-gossip (λ σ r G τ x. over Gossip x (step-gossip σ (reached-inv r) G) G)
 
 pub later-inv : {σ τ : Store} → Inv σ → Later σ τ → Inv τ
 later-inv I = by-later Inv I (λ τ w J. step-inv τ J)

@@ -14,7 +14,7 @@ use Rattle.facts.specs.Facts.{start-facts}
 use Rattle.facts.specs.Step.{start-answers}
 use Rattle.invariant.specs.Inv.{Inv}
 use Rattle.invariant.specs.Gossip.{snapshot-below}
-use Rattle.invariant.specs.Reach.{reached-inv}
+use Rattle.invariant.specs.Reach.{reached-inv, reached-gossip}
 
 -- what a start says of the present: S and the lag together
 abbrev pub told : Store → ℕ → ℕ
@@ -37,7 +37,7 @@ module _ {σ : Store} (r : Reached σ) (s : ℕ) where
   pub never-larger : (h p : ℕ) → holds σ h p ≡ true → snapshot σ s ≤ σ (Hybrid h p)
   never-larger h p e =
       let I = reached-inv r in
-      le-trans (snapshot-below σ I s h p h e e) (I .clocks .own h p)
+      le-trans (snapshot-below σ I (reached-gossip r) s h p h e e) (I .clocks .own h p)
 
   module _ (taken : refusal σ 2 s 0 0 ≡ 0) where
     home : holds σ (σ (HomeHall s)) (σ (HomePartition s)) ≡ true
@@ -58,7 +58,7 @@ module _ {σ : Store} (r : Reached σ) (s : ℕ) where
       pub lag-prepared : stateThere σ s t ≡ prepared → (snapshot σ s < σ (Proposed t (σ (HomePartition s)))) × (σ (Proposed t (σ (HomePartition s))) ≤ told σ s)
       lag-prepared e =
           let I = reached-inv r in
-          let k = snapshot-below σ I s (σ (HomeHall s)) (σ (HomePartition s)) (σ (HomeHall s)) home home in
+          let k = snapshot-below σ I (reached-gossip r) s (σ (HomeHall s)) (σ (HomePartition s)) (σ (HomeHall s)) home home in
           let a = rw w at (I .clocks .above t (σ (HomePartition s)) e) in
           let b = rw w at (I .clocks .proposed t (σ (HomePartition s)) e) in
           rw lag-whole (omega arith, omega arith)

@@ -10,7 +10,7 @@ use lib.Dec.{eqb, ltb, leb}
 use borrow.Author.Tests.{eq-eqb, lt-leb}
 use Rattle.book.specs.declared.Answer.the-variants.{Read}
 use Rattle.book.specs.Sizes.{partitionsMax, keys, placesMax}
-use Rattle.book.specs.Cells.{Store, Transactions, Snapshot, CommitTime, KeySet, State, prepared, Proposed, From, Value}
+use Rattle.book.specs.Cells.{Store, Entry, Transactions, Snapshot, CommitTime, KeySet, State, prepared, Proposed, From, Value}
 use Rattle.book.specs.Cases.{by-test, by-eq, by-cell}
 use Rattle.book.specs.Folds.{largest-ge}
 use Rattle.book.specs.Sets.{member}
@@ -25,25 +25,32 @@ use Rattle.facts.specs.Step.{Step, Writing, over, by-later}
 use Rattle.invariant.specs.Inv.{Inv, Below}
 use Rattle.facts.specs.Setup.{server-small}
 use Rattle.invariant.specs.Writer.{writer-holds}
-use Rattle.invariant.specs.Reach.{reached-later, reached-inv, later-inv, later-below}
+use Rattle.invariant.specs.Reach.{reached-later, reached-inv, reached-gossip, later-inv, later-below}
 use Rattle.snapshots.specs.Ever.{ever-decided}
 use Rattle.snapshots.specs.SnapshotRead.{mergeAll-agree, Fetches, snapshot-read}
 
+-- a transaction that writes a key and is decided now is decided above its writing server's version clock
+pub decide-past : (σ : Store) → Inv σ → (S t k : ℕ) → k < keys
+    → ((p : ℕ) → p < partitionsMax → (σ (State t p) ≡ 0) ⊎ (σ (State t p) ≡ prepared)) → member (σ (KeySet t)) k ≡ true
+    → S ≤ σ (Entry (writer σ t (partitionOf σ k)) (partitionOf σ k) (writer σ t (partitionOf σ k))) → S < decision σ t
+decide-past σ I S t k kb all w le =
+    let p = partitionOf σ k in
+    let p4 : p < partitionsMax = le-trans (mod-lt k (I .setup .partition)) (I .setup .partitions) in
+    let some = I .writes .written t k kb w in
+    let s2 : σ (State t p) ≡ prepared = ⊎-elim (λ z. absurd (omega arith)) (λ z. z) (all p p4) in
+    let a = I .clocks .above t p s2 in
+    let c = largest-ge partitionsMax (λ p. eqb (σ (State t p)) prepared) (λ p. σ (Proposed t p)) p p4 (eq-eqb (σ (State t p)) prepared s2) in
+    omega arith
+
 module _ (σ : Store) (I : Inv σ) (S : ℕ) (B : Below σ S) where
-  -- a transaction that writes a key and is decided now is decided above S
+  -- so above what is at most every entry
   decide-above : (t k : ℕ) → k < keys → σ (CommitTime t) ≡ 0
       → ((p : ℕ) → p < partitionsMax → (σ (State t p) ≡ 0) ⊎ (σ (State t p) ≡ prepared))
       → member (σ (KeySet t)) k ≡ true → S < decision σ t
   decide-above t k kb un all w =
       let p = partitionOf σ k in
       let kw = writer-holds σ I t p (mod-lt k (I .setup .partition)) in
-      let p4 = server-small σ (I .setup) (writer σ t p) p kw .1 in
-      let some = I .writes .written t k kb w in
-      let s2 : σ (State t p) ≡ prepared = ⊎-elim (λ z. absurd (omega arith)) (λ z. z) (all p p4) in
-      let a = I .clocks .above t p s2 in
-      let b = B (writer σ t p) p (writer σ t p) kw kw in
-      let c = largest-ge partitionsMax (λ p. eqb (σ (State t p)) prepared) (λ p. σ (Proposed t p)) p p4 (eq-eqb (σ (State t p)) prepared s2) in
-      omega arith
+      decide-past σ I S t k kb all w (B (writer σ t p) p (writer σ t p) kw kw)
 
   -- so what is decided now is not in the view at S
   decide-hidden : (t k : ℕ) → k < keys → σ (CommitTime t) ≡ 0
@@ -88,7 +95,7 @@ later-decided {σ} r w s k kb =
     let S = σ (Snapshot s) in
     by-later (λ τ. decidedView τ k S ≡ decidedView σ k S) refl
     (λ τ v e υ x. over (λ υ. decidedView υ k S ≡ decidedView τ k S) x
-    (step-view τ (later-inv I v) S (later-below I S (I .gossip .snapshot s) v) k kb) refl ∙ e) w
+    (step-view τ (later-inv I v) S (later-below I S (reached-gossip r .snapshot s) v) k kb) refl ∙ e) w
 
 -- Later steps never alter the view at a session's snapshot of all that was decided. (Running or not.)
 pub later-never-alters : {σ τ : Store} (r : Reached σ) (w : Later σ τ) (s k : ℕ) → k < keys

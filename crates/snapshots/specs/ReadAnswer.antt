@@ -20,8 +20,8 @@ use Rattle.book.specs.SessionSteps.{snapshot, start, readAnswer, read, write}
 use Rattle.book.specs.Steps.{ruleOf, refusal, answer, view-taken}
 use Rattle.book.specs.Reached.{Reached}
 use Rattle.facts.specs.Step.{Step, Writing, over, by-reached}
-use Rattle.invariant.specs.Inv.{Inv}
-use Rattle.invariant.specs.Reach.{reached-inv}
+use Rattle.invariant.specs.Inv.{Gossip, Inv}
+use Rattle.invariant.specs.Reach.{reached-inv, reached-gossip}
 use Rattle.snapshots.specs.SnapshotRead.{held-decided}
 use Rattle.snapshots.specs.LaterView.{ask-view, decide-view}
 
@@ -49,14 +49,14 @@ or-false-right : (a b : Bool) → (a || b) ≡ false → b ≡ false
 or-false-right true b e = absurd (true≢false e)
 or-false-right false b e = e
 
-module _ (σ : Store) (I : Inv σ) (R : Reads σ) where
+module _ (σ : Store) (I : Inv σ) (G : Gossip σ) (R : Reads σ) where
   -- a read of a key that is not in the write set
   read-found : (s k h : ℕ) → k < keys → σ (Status s) ≡ running → holds σ h (partitionOf σ k) ≡ true → member (σ (WriteSet s)) k ≡ false
       → numbers (readAnswer σ s k h) ≡ numbers (found σ s k)
   read-found s k h kb st e w =
       by-test (member (σ (ReadSet s)) k)
       (λ c. rw (w, c) (R s k kb st w c))
-      (λ c. rw (w, c, held-decided σ I (σ (Snapshot s)) (I .gossip .snapshot s) k h kb e))
+      (λ c. rw (w, c, held-decided σ I (σ (Snapshot s)) (G .snapshot s) k h kb e))
 
   found-taken : (s k : ℕ) → numbers (found σ s k) .refusal ≡ 0
   found-taken s k = by-test (ltb 0 (σ (CacheTime s k))) (λ c. rw c) (λ c. rw c (view-taken (decidedView σ k (σ (Snapshot s)))))
@@ -99,19 +99,19 @@ module _ (σ : Store) (I : Inv σ) (R : Reads σ) where
   step-reads (Step.reads s k h f) = read-reads s k h (f .server)
   step-reads (Step.writes s k v f) = write-reads s k v
   step-reads (Step.asks s₀ f q) = λ s k kb st w i.
-      rw (ask-view σ I (σ (Snapshot s)) (I .gossip .snapshot s) s₀ k)
+      rw (ask-view σ I (σ (Snapshot s)) (G .snapshot s) s₀ k)
       (R s k kb (unwritten (same (Status s₀) (Status s)) committing (σ (Status s)) running (λ x. omega arith) st .1) w i)
   step-reads (Step.rests s₀ f q) = λ s k kb st w i.
       R s k kb (unwritten (same (Status s₀) (Status s)) idle (σ (Status s)) running (λ x. omega arith) st .1) w i
   step-reads (Step.decides n f) = λ s k kb st w i.
       by-eq (σ (By (placeOf n))) s
       (λ q e. let n = rw e at st in absurd (omega arith))
-      (λ q e. rw (decide-view σ I (σ (Snapshot s)) (I .gossip .snapshot s) (placeOf n) k kb (f .undecided) (f .states), e)
+      (λ q e. rw (decide-view σ I (σ (Snapshot s)) (G .snapshot s) (placeOf n) k kb (f .undecided) (f .states), e)
       (R s k kb (rw e at st) (rw e at w) i))
 
 reached-reads : {σ : Store} → Reached σ → Reads σ
 reached-reads =
-    by-reached Reads (λ masks homes z s k kb st w i. absurd (omega arith)) (λ σ r R τ x. over Reads x (step-reads σ (reached-inv r) R) R)
+    by-reached Reads (λ masks homes z s k kb st w i. absurd (omega arith)) (λ σ r R τ x. over Reads x (step-reads σ (reached-inv r) (reached-gossip r) R) R)
 
 -- Every read of a running session of a reached store is taken where the hall holds the key, and answers the session's own write of this
 -- transaction, else its cached write, else the merge of all that is decided at or below its snapshot. Neither the hall nor the read set matters.
@@ -123,7 +123,7 @@ read-answer {σ} r s k h there runs kb e =
       rw (there, l, e, runs),
       rw (there, l, e, runs) (by-test (member (σ (WriteSet s)) k)
           (λ c. rw c)
-          (λ c. rw c (rw c at (read-found σ (reached-inv r) (reached-reads r) s k h kb runs e c)))),
+          (λ c. rw c (rw c at (read-found σ (reached-inv r) (reached-gossip r) (reached-reads r) s k h kb runs e c)))),
     )
 
 -- what a running session has cached is above its snapshot

@@ -3,14 +3,14 @@ use Prim.Native.Nat.{ℕ, zero, suc, _≤_, _<_}
 use mathlib.Core.Bool.{Bool, true, false, _&&_}
 use mathlib.Core.Path.{_≡_, refl, sym, _∙_}
 use mathlib.Core.Logic.{⊎-elim}
-use native.Mathlib.Nat.{mod-lt}
+use native.Mathlib.Nat.{mod-lt, le-trans}
 use native.Mathlib.Omega.{arith}
 use lib.Dec.{ltb}
 use borrow.Author.Tests.{eqb-true, eq-eqb, leb-true, ltb-true, lt-ltb}
 use Rattle.book.specs.declared.Answer.the-variants.{Read}
 use Rattle.book.specs.declared.View.{View}
 use Rattle.book.specs.Sizes.{keys, placesMax}
-use Rattle.book.specs.Cells.{Store, Partitions, Sessions, Held, Status, running, Snapshot, WriteSet, ReadSet, CacheTime, CommitTime, KeySet, State, asked, prepared, waiting, installed}
+use Rattle.book.specs.Cells.{Store, Partitions, Sessions, Entry, Held, Status, running, Snapshot, WriteSet, ReadSet, CacheTime, CommitTime, KeySet, State, asked, prepared, waiting, installed}
 use Rattle.book.specs.Cases.{by-test, by-eq, and-true}
 use Rattle.book.specs.Sets.{member}
 use Rattle.book.specs.Servers.{holds, partitionOf, writer}
@@ -21,7 +21,7 @@ use Rattle.book.specs.History.{everView, decidedEver}
 use Rattle.invariant.specs.Inv.{Inv, Below}
 use Rattle.facts.specs.Setup.{server-small}
 use Rattle.invariant.specs.Writer.{writer-holds}
-use Rattle.invariant.specs.Reach.{reached-inv}
+use Rattle.invariant.specs.Reach.{reached-inv, reached-gossip}
 use Rattle.snapshots.specs.Ever.{ever-decided}
 
 -- merges over the same transactions, with the same versions
@@ -40,13 +40,12 @@ iff-bool true b f g = sym (f refl)
 iff-bool false true f g = g refl
 iff-bool false false f g = refl
 
--- what is decided at most S is held by every holder
-decided-held : (σ : Store) → Inv σ → (S : ℕ) → Below σ S → (t p h : ℕ) → p < σ Partitions → 0 < σ (State t p)
-    → 0 < σ (CommitTime t) → σ (CommitTime t) ≤ S → holds σ h p ≡ true → σ (Held h p t) ≡ 1
-decided-held σ I S B t p h pb some d le k =
-    let kw = writer-holds σ I t p pb in
+-- what is decided at most as late as a holder knows of its writing hall is held there
+pub decided-held : (σ : Store) → Inv σ → (t p h : ℕ) → p < σ Partitions → 0 < σ (State t p)
+    → 0 < σ (CommitTime t) → holds σ h p ≡ true → σ (CommitTime t) ≤ σ (Entry h p (writer σ t p)) → σ (Held h p t) ≡ 1
+decided-held σ I t p h pb some d k le =
     let p4 = server-small σ (I .setup) h p k .1 in
-    let own = B (writer σ t p) p (writer σ t p) kw kw in
+    let own = I .channels .seen h p (writer σ t p) in
     let n1 : σ (State t p) ≡ asked → ⊥ = λ e. let z = I .states .early t p p4 e in omega arith in
     let n2 : σ (State t p) ≡ prepared → ⊥ = λ e. let z = I .states .decided t p p4 e d in let y = I .clocks .above t p e in omega arith in
     let n3 : σ (State t p) ≡ waiting → ⊥ = λ e. let z = I .clocks .waits t p e in omega arith in
@@ -56,7 +55,7 @@ decided-held σ I S B t p h pb some d le k =
     (λ q _. rw q at (I .holding .home t p s4))
     (λ q _. ⊎-elim
     (λ x. x)
-    (λ (i, l, m). let z = I .channels .fresh h p (writer σ t p) i t q l m in let y = B h p (writer σ t p) k kw in absurd (omega arith))
+    (λ (i, l, m). let z = I .channels .fresh h p (writer σ t p) i t q l m in absurd (omega arith))
     (I .holding .away t p h s4 k q))
 
 -- so a holder's view at S is the view of all that is decided
@@ -71,7 +70,8 @@ held-decided σ I S B k h kb e =
     let b = and-true (member (σ (KeySet t)) k) _ (a .1) in
     let there = mod-lt k (I .setup .partition) in
     let some = I .writes .written t k kb (b .0) in
-    let x = decided-held σ I S B t (partitionOf σ k) h there some (ltb-true _ _ (a .0)) (leb-true _ _ (b .1)) e in
+    let known = B h (partitionOf σ k) (writer σ t (partitionOf σ k)) e (writer-holds σ I t (partitionOf σ k) there) in
+    let x = decided-held σ I t (partitionOf σ k) h there some (ltb-true _ _ (a .0)) e (le-trans (leb-true _ _ (b .1)) known) in
     rw (eq-eqb (σ (Held h (partitionOf σ k) t)) 1 x) (a .1)))
     (λ t tb c. refl)
 
@@ -97,7 +97,7 @@ pub snapshot-read : {σ : Store} (r : Reached σ) (s k h : ℕ) → Fetches σ s
 unfolding refusal answer ruleOf
 snapshot-read {σ} r s k h f =
     let I = reached-inv r in
-    let x = held-decided σ I (σ (Snapshot s)) (I .gossip .snapshot s) k h (f .key) (f .holder) ∙ sym (ever-decided r k (σ (Snapshot s))) in
+    let x = held-decided σ I (σ (Snapshot s)) (reached-gossip r .snapshot s) k h (f .key) (f .holder) ∙ sym (ever-decided r k (σ (Snapshot s))) in
     let l = lt-ltb k keys (f .key) in (
       rw (f .there, l, f .holder, f .runs),
       rw (f .there, l, f .holder, f .runs, f .unwritten, f .unread, f .uncached, x),
