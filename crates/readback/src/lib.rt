@@ -1,0 +1,1 @@
+// Theorems only: what is printed is read back (specs/ReadBack.antt).
