@@ -3,7 +3,6 @@ use Prim.Native.Nat.{ℕ, zero, suc, _+_, _-_, _≤_, _<_}
 use mathlib.Core.Bool.{Bool, true, false, cond, false≢true}
 use mathlib.Core.List.{List, _++_}
 use mathlib.Core.Path.{_≡_, refl, sym, ap, _∙_}
-use native.Mathlib.Nat.{zero-add}
 use native.Mathlib.Omega.{arith}
 use lib.Dec.{ltb}
 use lib.ListN.{length, take, drop, getD, length-append, length-drop}
@@ -11,12 +10,12 @@ use lib.Seq.{take-at}
 use borrow.Author.Tests.{eq-eqb, le-leb, le-ltb}
 use Rattle.book.specs.Folds.{count}
 use Rattle.book.specs.Cases.{by-test, by-eq}
-use Rattle.room.specs.Layout.{size, store}
+use Rattle.room.specs.Layout.{size}
 use Rattle.room.specs.Lay.{length-lay}
 use Rattle.room.specs.Loops.{count-le}
-use Rattle.script.specs.Printout.{outcome, printed, blank}
+use Rattle.script.specs.Printout.{printed, blank}
 use Rattle.script.specs.Length.{capacity, outcome-fits}
-use Rattle.script.specs.Run.{Ran, lent, inside}
+use Rattle.script.specs.Run.{Ran, lent}
 use Rattle.tally.specs.declared.Compared.{Compared}
 use Rattle.tally.specs.declared.Compared.the-variants.{Same, At}
 use Rattle.tally.specs.Compare.{compared, isSame, same-text, text-same}
@@ -59,14 +58,19 @@ module _ (bytes : List ℕ) (a b e : ℕ) where
   unfolding verdictOf
   agreeing h i j q = rw (le-ltb b a h, le-ltb e b i, le-ltb (length bytes) e j, q, text-same (part bytes b e) 0)
 
--- where as many agree as there are, each does
-pub all-agree : (n : ℕ) (ok : ℕ → Bool) → count n ok ≡ n → (i : ℕ) → i < n → ok i ≡ true
+all-agree : (n : ℕ) (ok : ℕ → Bool) → count n ok ≡ n → (i : ℕ) → i < n → ok i ≡ true
 unfolding count
 all-agree zero ok e i l = absurd (omega arith)
 all-agree (suc n) ok e i l =
     by-test (ok n)
     (λ r. let f = rw r at e in by-eq i n (λ q _. rw q r) (λ q _. all-agree n ok (omega arith) i (omega arith)))
     (λ r. let f = rw r at e in absurd (omega (arith, count-le n ok)))
+
+-- where as many agree as there are, each printout is what is stored
+pub all-printed : (bytes cuts : List ℕ) (n : ℕ) → count n (agrees bytes cuts) ≡ n → (i : ℕ) → i < n
+    → printed (part bytes (getD cuts (i + i) 0) (getD cuts (i + i + 1) 0)) ≡ part bytes (getD cuts (i + i + 1) 0) (getD cuts (i + i + 2) 0)
+all-printed bytes cuts n e i l =
+    agreed bytes (getD cuts (i + i) 0) (getD cuts (i + i + 1) 0) (getD cuts (i + i + 2) 0) (all-agree n (agrees bytes cuts) e i l)
 
 -- what a run leaves of a room and a buffer that it was lent
 pub record Left (text out : List ℕ) (n : ℕ) (left late : List ℕ) : Type 0 where

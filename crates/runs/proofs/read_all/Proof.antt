@@ -1,6 +1,5 @@
 use Prim.Native.Nat.{_+_, _-_, _≤_}
-use mathlib.Core.Path.{_≡_, refl}
-use native.Mathlib.Omega.{arith}
+use mathlib.Core.Path.{_≡_}
 use borrow.Author.Needs.{needs}
 use lib.ListN.{length}
 use Rattle.runs.proofs.read_all.Statement.{statement}
