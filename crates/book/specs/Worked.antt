@@ -1,5 +1,5 @@
--- Lines worked out by hand from document 01, its printout and document 02: setup; steps 1 to 14, for each what it answers, what it changes and
--- what stays, and its refusals, where the number is given and where it just is not; views; sizes; a room that is not well formed.
+-- Lines worked out by hand from document 01, its printout and document 02: setup; steps 1 to 14, for each what it answers, what it changes
+-- and what stays, and its refusals, where the number is given and where it just is not; views; sizes; a room that is not well formed.
 use Prim.Native.Nat.{ℕ, zero, suc, _^_, _-_, _+_}
 use mathlib.Core.Bool.{Bool, true, cond}
 use mathlib.Core.Path.{refl}
@@ -26,21 +26,27 @@ halls = firstStore (3 ∷ 2 ∷ []) (0 ∷ 0 ∷ 1 ∷ 1 ∷ [])
 abbrev writing : Store
 writing = halls ⟨ Status 1 ≔ running ⟩ ⟨ WriteSet 1 ≔ 7 ⟩ ⟨ WriteValue 1 0 ≔ 205 ⟩ ⟨ WriteValue 1 1 ≔ 44 ⟩ ⟨ WriteValue 1 2 ≔ 46 ⟩
 
--- session 0 running with S = 100, and a value of key 1 in each place where a read looks: 11 written, 22 read, 33 cached, 44 at server (0, 1)
+-- session 0 running with S = 100, and a value of key 1 in each place where a read looks: 11 written, 22 read, 33 cached, 44 at server (0,
+-- 1)
 abbrev looking : Store
-looking = halls ⟨ Status 0 ≔ running ⟩ ⟨ Snapshot 0 ≔ 100 ⟩ ⟨ WriteSet 0 ≔ 2 ⟩ ⟨ WriteValue 0 1 ≔ 11 ⟩ ⟨ ReadSet 0 ≔ 2 ⟩ ⟨ ReadValue 0 1 ≔ 22 ⟩ ⟨ CacheTime 0 1 ≔ 150 ⟩ ⟨ CacheValue 0 1 ≔ 33 ⟩ ⟨ Transactions ≔ 1 ⟩ ⟨ CommitTime 0 ≔ 100 ⟩ ⟨ KeySet 0 ≔ 2 ⟩ ⟨ Value 0 1 ≔ 44 ⟩ ⟨ State 0 1 ≔ installed ⟩ ⟨ Held 0 1 0 ≔ 1 ⟩
+looking = halls ⟨ Status 0 ≔ running ⟩ ⟨ Snapshot 0 ≔ 100 ⟩ ⟨ WriteSet 0 ≔ 2 ⟩ ⟨ WriteValue 0 1 ≔ 11 ⟩ ⟨ ReadSet 0 ≔ 2 ⟩
+    ⟨ ReadValue 0 1 ≔ 22 ⟩ ⟨ CacheTime 0 1 ≔ 150 ⟩ ⟨ CacheValue 0 1 ≔ 33 ⟩ ⟨ Transactions ≔ 1 ⟩ ⟨ CommitTime 0 ≔ 100 ⟩ ⟨ KeySet 0 ≔ 2 ⟩
+    ⟨ Value 0 1 ≔ 44 ⟩ ⟨ State 0 1 ≔ installed ⟩ ⟨ Held 0 1 0 ≔ 1 ⟩
 
 -- session 1's transaction 1 of keys 0 and 1, asked: from hall 1, so written in hall 0 for partition 0 and in hall 1 for partition 1
 abbrev bothAsked : Store
-bothAsked = halls ⟨ Status 1 ≔ committing ⟩ ⟨ WriteSet 1 ≔ 3 ⟩ ⟨ Transactions ≔ 1 ⟩ ⟨ By 0 ≔ 1 ⟩ ⟨ From 0 ≔ 1 ⟩ ⟨ KeySet 0 ≔ 3 ⟩ ⟨ Value 0 0 ≔ 205 ⟩ ⟨ Value 0 1 ≔ 44 ⟩ ⟨ State 0 0 ≔ asked ⟩ ⟨ State 0 1 ≔ asked ⟩
+bothAsked = halls ⟨ Status 1 ≔ committing ⟩ ⟨ WriteSet 1 ≔ 3 ⟩ ⟨ Transactions ≔ 1 ⟩ ⟨ By 0 ≔ 1 ⟩ ⟨ From 0 ≔ 1 ⟩ ⟨ KeySet 0 ≔ 3 ⟩
+    ⟨ Value 0 0 ≔ 205 ⟩ ⟨ Value 0 1 ≔ 44 ⟩ ⟨ State 0 0 ≔ asked ⟩ ⟨ State 0 1 ≔ asked ⟩
 
 -- session 0's transaction 1 of keys 0 and 1, from hall 0: prepared at 100 in partition 0 and at 90 in partition 1
 abbrev bothPrepared : Store
-bothPrepared = halls ⟨ Transactions ≔ 1 ⟩ ⟨ KeySet 0 ≔ 3 ⟩ ⟨ State 0 0 ≔ prepared ⟩ ⟨ Proposed 0 0 ≔ 100 ⟩ ⟨ State 0 1 ≔ prepared ⟩ ⟨ Proposed 0 1 ≔ 90 ⟩
+bothPrepared = halls ⟨ Transactions ≔ 1 ⟩ ⟨ KeySet 0 ≔ 3 ⟩ ⟨ State 0 0 ≔ prepared ⟩ ⟨ Proposed 0 0 ≔ 100 ⟩ ⟨ State 0 1 ≔ prepared ⟩
+    ⟨ Proposed 0 1 ≔ 90 ⟩
 
 -- the same of session 1, which has older cache entries of keys 1 and 5
 abbrev deciding : Store
-deciding = bothAsked ⟨ State 0 0 ≔ prepared ⟩ ⟨ Proposed 0 0 ≔ 100 ⟩ ⟨ State 0 1 ≔ prepared ⟩ ⟨ Proposed 0 1 ≔ 90 ⟩ ⟨ CacheTime 1 1 ≔ 50 ⟩ ⟨ CacheValue 1 1 ≔ 7 ⟩ ⟨ CacheTime 1 5 ≔ 60 ⟩ ⟨ CacheValue 1 5 ≔ 8 ⟩
+deciding = bothAsked ⟨ State 0 0 ≔ prepared ⟩ ⟨ Proposed 0 0 ≔ 100 ⟩ ⟨ State 0 1 ≔ prepared ⟩ ⟨ Proposed 0 1 ≔ 90 ⟩ ⟨ CacheTime 1 1 ≔ 50 ⟩
+    ⟨ CacheValue 1 1 ≔ 7 ⟩ ⟨ CacheTime 1 5 ≔ 60 ⟩ ⟨ CacheValue 1 5 ≔ 8 ⟩
 
 -- session 0's, decided at 100
 abbrev decidedAt100 : Store
@@ -95,7 +101,8 @@ worked =
     -- "each partition below N is held by some hall": partition 0 is not
     ∷ setupRefusal (2 ∷ []) (0 ∷ 1 ∷ []) gives 2
     ∷ setupRefusal (2 ∷ 1 ∷ []) (0 ∷ 1 ∷ []) gives 0
-    -- "Each mask is 1 to 15": 17 has partition 0's bit, and beside a hall with partition 0 stands one with 16: nothing else speaks against them
+    -- "Each mask is 1 to 15": 17 has partition 0's bit, and beside a hall with partition 0 stands one with 16: nothing else speaks against
+    -- them
     ∷ setupRefusal (17 ∷ []) (0 ∷ 0 ∷ []) gives 2
     ∷ setupRefusal (15 ∷ []) (0 ∷ 0 ∷ []) gives 0
     ∷ setupRefusal (1 ∷ 16 ∷ []) (0 ∷ 0 ∷ []) gives 2
@@ -200,7 +207,8 @@ worked =
     ∷ after looking 3 0 1 0 (CacheTime 0 1) gives 150
     ∷ after looking 3 0 1 0 (ReadSet 1) gives 0
     ∷ after looking 3 0 1 0 (Status 0) gives running
-    -- number 3: a session, a key (P9), a hall that is not there; "a read in a hall without the key's partition", wherever the answer comes from
+    -- number 3: a session, a key (P9), a hall that is not there; "a read in a hall without the key's partition", wherever the answer comes
+    -- from
     ∷ refusal looking 3 2 1 0 gives 3
     ∷ refusal looking 3 0 1 2 gives 3
     ∷ refusal looking 3 0 1 1 gives 0
@@ -618,7 +626,8 @@ worked =
     -- "unknown code": they are 1 to 14
     ∷ refusal halls 0 0 0 0 gives 3
     ∷ refusal halls 15 0 0 0 gives 3
-    -- "The writing hall" (P7) "is the coordinator's hall if it holds it, else the first holder found counting up from it and past the last back to 0"
+    -- "The writing hall" (P7) "is the coordinator's hall if it holds it, else the first holder found counting up from it and past the last
+    -- back to 0"
     ∷ writer (four 0) 0 0 gives 0
     ∷ writer (four 1) 0 0 gives 2
     ∷ writer (four 2) 0 0 gives 2
@@ -650,7 +659,8 @@ worked =
     ∷ viewNumbers (heldView decidedAt100 0 0 100) .first gives 0
     ∷ viewNumbers (heldView looking 0 1 100) .second gives 44
     ∷ viewNumbers (heldView (looking ⟨ KeySet 1 ≔ 2 ⟩ ⟨ Value 1 1 ≔ 45 ⟩ ⟨ CommitTime 1 ≔ 99 ⟩ ⟨ Held 0 1 1 ≔ 1 ⟩) 0 1 100) .second gives 44
-    ∷ viewNumbers (heldView (looking ⟨ KeySet 63 ≔ 2 ⟩ ⟨ Value 63 1 ≔ 45 ⟩ ⟨ CommitTime 63 ≔ 100 ⟩ ⟨ Held 0 1 63 ≔ 1 ⟩) 0 1 100) .second gives 45
+    ∷ viewNumbers (heldView (looking ⟨ KeySet 63 ≔ 2 ⟩ ⟨ Value 63 1 ≔ 45 ⟩ ⟨ CommitTime 63 ≔ 100 ⟩
+    ⟨ Held 0 1 63 ≔ 1 ⟩) 0 1 100) .second gives 45
     -- What was decided so far: a decide that is taken adds its transaction as it is then, with its commit time and its coordinator's hall
     ∷ viewNumbers (everView (decidedAfter deciding 7 1 0 0 []) 0 100) .second gives 205
     ∷ viewNumbers (everView (decidedAfter deciding 7 1 0 0 []) 0 99) .first gives 0

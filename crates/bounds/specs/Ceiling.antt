@@ -86,7 +86,12 @@ module _ (σ : Store) (C : Ceiling σ) where
 pub ceiling : {σ : Store} → Reached σ → Ceiling σ
 ceiling =
     by-reached Ceiling
-    (λ masks homes e. record { written = λ s k. omega arith; read = λ s k. omega arith; cached = λ s k. omega arith; asked = λ t k. omega arith })
+    (λ masks homes e. record {
+      written = λ s k. omega arith;
+      read = λ s k. omega arith;
+      cached = λ s k. omega arith;
+      asked = λ t k. omega arith;
+    })
     (λ σ r C τ x. over Ceiling x (step-ceiling σ C) C)
 
 -- A store without a higher value, reached or not, gets none by steps.

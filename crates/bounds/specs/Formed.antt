@@ -82,14 +82,16 @@ formed σ w =
     let sessions : all sessionsMax (λ s. sessionOk σ b s) ≡ true = search parts in
     let transactions : all placesMax (λ t. transactionOk σ b t) ≡ true = search parts in
     let notes : all hallsMax (λ to. all hallsMax (λ f. sharedOk σ b to f)) ≡ true = search parts in
-    let server : (h p : ℕ) → h < hallsMax → p < partitionsMax → serverOk σ b h p ≡ true = λ h p i j. all-at partitionsMax _ (all-at hallsMax _ servers h i) p j in
+    let server : (h p : ℕ) → h < hallsMax → p < partitionsMax → serverOk σ b h p ≡ true = λ h p i j. all-at partitionsMax _
+    (all-at hallsMax _ servers h i) p j in
     let halls : (h p : ℕ) → h < hallsMax → p < partitionsMax → all hallsMax (λ g. leb (σ (Entry h p g)) b && channelOk σ b h p g) ≡ true =
     λ h p i j. let c = server h p i j in search parts in
     let hall : (h p g : ℕ) → h < hallsMax → p < partitionsMax → g < hallsMax → (leb (σ (Entry h p g)) b && channelOk σ b h p g) ≡ true =
     λ h p g i j l. all-at hallsMax _ (halls h p i j) g l in
     let session : (s : ℕ) → s < sessionsMax → sessionOk σ b s ≡ true = all-at sessionsMax _ sessions in
     let transaction : (t : ℕ) → t < placesMax → transactionOk σ b t ≡ true = all-at placesMax _ transactions in
-    let decided : (t : ℕ) → t < placesMax → σ (CommitTime t) ≤ cond (ltb t (σ Transactions)) b 0 = λ t i. let c = transaction t i in search parts in
+    let decided : (t : ℕ) → t < placesMax → σ (CommitTime t) ≤ cond
+    (ltb t (σ Transactions)) b 0 = λ t i. let c = transaction t i in search parts in
     let pairs : (t : ℕ) → t < placesMax → all partitionsMax (λ p. pairOk σ b t p) ≡ true = λ t i. let c = transaction t i in search parts in
     let pair : (t p : ℕ) → t < placesMax → p < partitionsMax → pairOk σ b t p ≡ true = λ t p i j. all-at partitionsMax _ (pairs t i) p j in
     record {
@@ -135,7 +137,8 @@ pub well-formed : (σ : Store) → Formed σ → wellFormed σ ≡ true
 unfolding wellFormed
 well-formed σ F =
     let T = F .times in
-    let decided : (t : ℕ) → t < placesMax → σ (CommitTime t) ≤ cond (ltb t (σ Transactions)) (timeBound σ) 0 = λ t i. by-test (ltb t (σ Transactions))
+    let decided : (t : ℕ) → t < placesMax → σ (CommitTime t) ≤ cond (ltb t (σ Transactions)) (timeBound σ) 0 = λ t i. by-test
+    (ltb t (σ Transactions))
     (λ c. rw c (T .commit t i))
     (λ c. let x = F .undecided t i (ltb-false t (σ Transactions) c) in rw c (omega arith)) in
     search (
@@ -175,7 +178,8 @@ from-small ok m zero h l = l
 from-small ok m (suc n) h l =
     by-test (ok h)
     (λ c. rw c l)
-    (λ c. rw c (from-small ok m n _ (by-test (leb m (suc h)) (λ d. rw d (omega arith)) (λ d. let x = leb-false m (suc h) d in rw d (omega arith)))))
+    (λ c. rw c (from-small ok m n _ (by-test (leb m (suc h)) (λ d. rw d (omega arith))
+    (λ d. let x = leb-false m (suc h) d in rw d (omega arith)))))
 
 -- the writing hall of a transaction is small
 pub writer-small : (σ : Store) → Formed σ → (t p : ℕ) → t < placesMax → writer σ t p < hallsMax

@@ -227,7 +227,8 @@ module _ (σ : Store) (F : Formed σ) where
       let times = times-le σ b B (omega arith) T in
       let hybrid = put2 (_≤ B) σ Hybrid h p _ after (times .hybrid) in
       let entry = put3 (_≤ B) σ Entry h p h _ clock (times .entry) in
-      let sent : (g q f n : ℕ) → g < hallsMax → q < partitionsMax → f < hallsMax → n < slots → install σ h p (ClockSent g q f n) ≤ B = λ g q f n i j l m.
+      let sent : (g q f n : ℕ) → g < hallsMax → q < partitionsMax → f < hallsMax → n < slots → install σ h p
+      (ClockSent g q f n) ≤ B = λ g q f n i j l m.
       choose (_≤ B) (outgoing σ h p g q f && eqb (nextSlot σ g q f) n) clock (times .sent g q f n i j l m) in
       let waiting : All3 (_≤ slots) (install σ h p) Waiting hallsMax partitionsMax hallsMax = λ g q f i j l. by-test (outgoing σ h p g q f)
       (λ c. let a = and-true (eqb p q) _ c in
@@ -280,8 +281,8 @@ module _ (σ : Store) (F : Formed σ) where
 
 -- `Formed` reads most kinds
 step-writes : (σ : Store) → Formed σ → {τ : Store}
-    → Writing σ (Sessions ∷ Transactions ∷ Reading 0 0 ∷ Hybrid 0 0 ∷ Stable 0 0 ∷ Entry 0 0 0 ∷ HomeHall 0 ∷ HomePartition 0 ∷ Status 0 ∷ Snapshot 0
-    ∷ LastCommit 0 ∷ WriteSet 0 ∷ ReadSet 0 ∷ CacheTime 0 0 ∷ By 0 ∷ From 0 ∷ CommitTime 0 ∷ KeySet 0 ∷ State 0 0 ∷ Proposed 0 0
+    → Writing σ (Sessions ∷ Transactions ∷ Reading 0 0 ∷ Hybrid 0 0 ∷ Stable 0 0 ∷ Entry 0 0 0 ∷ HomeHall 0 ∷ HomePartition 0 ∷ Status 0
+    ∷ Snapshot 0 ∷ LastCommit 0 ∷ WriteSet 0 ∷ ReadSet 0 ∷ CacheTime 0 0 ∷ By 0 ∷ From 0 ∷ CommitTime 0 ∷ KeySet 0 ∷ State 0 0 ∷ Proposed 0 0
     ∷ First 0 0 0 ∷ Waiting 0 0 0 ∷ ClockSent 0 0 0 0 ∷ Note 0 0 ∷ Shared 0 0 ∷ servers) τ → Formed τ
 step-writes σ F (Step.ticks h p x f) = tick-formed σ F h p x (f .most)
 step-writes σ F (Step.starts s f) = start-formed σ F s (f .there)

@@ -1,4 +1,5 @@
--- What a step that its ladder lets through may rely on: one record for each step, read off its ladder. The theorems and the code use the same.
+-- What a step that its ladder lets through may rely on: one record for each step, read off its ladder. The theorems and the code use the
+-- same.
 use Prim.Native.Nat.{ℕ, zero, suc, _≤_, _<_}
 use mathlib.Core.Bool.{Bool, true, false, cond, _&&_, _||_}
 use mathlib.Core.Path.{_≡_, refl}
@@ -85,7 +86,8 @@ pub record Moves (σ : Store) (s h p : ℕ) : Type 0 where
   pub server : holds σ h p ≡ true
   pub rests : σ (Status s) ≡ idle
 
--- What a ladder that gives 0 says: none of its tests was passed. (A number that a rung gives is not 0, which is seen once the number is written out.)
+-- What a ladder that gives 0 says: none of its tests was passed. (A number that a rung gives is not 0, which is seen once the number is
+-- written out.)
 abbrev Given : ℕ → Type 0 → Type 0
 Given zero A = Unit {0}
 Given (suc n) A = A

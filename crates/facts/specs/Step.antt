@@ -19,8 +19,9 @@ use Rattle.book.specs.Reached.{Reached, Later}
 use Rattle.facts.specs.Frame.{Kinds, of, meets, only, past}
 use Rattle.facts.specs.Facts.{Ticks, Starts, Reads, Writes, Ends, Prepares, Decides, Commits, Installs, Delivers, Serves, Shares, Moves, tick-facts, start-facts, read-facts, write-facts, end-facts, prepare-facts, decide-facts, commit-facts, install-facts, deliver-facts, server-facts, share-facts, move-facts}
 
--- `Step σ K b τ`: a step takes σ to τ, and b says whether it writes a kind in K. So a function of `Step σ K true τ` has a clause for each step that
--- writes a kind in K, and for no other. Listed are the kinds that a step writes, the last first. End is two: with writes a session asks, without it rests.
+-- `Step σ K b τ`: a step takes σ to τ, and b says whether it writes a kind in K. So a function of `Step σ K true τ` has a clause for each
+-- step that writes a kind in K, and for no other. Listed are the kinds that a step writes, the last first. End is two: with writes a
+-- session asks, without it rests.
 pub data Step (σ : Store) (K : Kinds) : Bool → Store → Type 0 where
   ticks : (h p x : ℕ) → Ticks σ h p x → Step σ K (meets K (Reading 0 0 ∷ [])) (tick σ h p x)
   starts : (s : ℕ) → Starts σ s
@@ -32,10 +33,12 @@ pub data Step (σ : Store) (K : Kinds) : Bool → Store → Type 0 where
   rests : (s : ℕ) → Ends σ s → σ (WriteSet s) ≡ 0 → Step σ K (meets K (Status 0 ∷ [])) (σ ⟨ Status s ≔ idle ⟩)
   prepares : (n p : ℕ) → Prepares σ n p → Step σ K (meets K (State 0 0 ∷ Proposed 0 0 ∷ Hybrid 0 0 ∷ [])) (prepare σ (placeOf n) p)
   decides : (n : ℕ) → Decides σ n
-      → Step σ K (meets K (CacheValue 0 0 ∷ CacheTime 0 0 ∷ Status 0 ∷ WriteSet 0 ∷ LastCommit 0 ∷ CommitTime 0 ∷ [])) (decide σ (placeOf n))
+      → Step σ K (meets K (CacheValue 0 0 ∷ CacheTime 0 0 ∷ Status 0 ∷ WriteSet 0 ∷ LastCommit 0 ∷ CommitTime 0 ∷ []))
+      (decide σ (placeOf n))
   commits : (n p : ℕ) → Commits σ n p → Step σ K (meets K (State 0 0 ∷ Hybrid 0 0 ∷ [])) (commit σ (placeOf n) p)
   installs : (h p : ℕ) → Installs σ h p
-      → Step σ K (meets K (State 0 0 ∷ Held 0 0 0 ∷ ClockSent 0 0 0 0 ∷ Carries 0 0 0 0 ∷ Waiting 0 0 0 ∷ Entry 0 0 0 ∷ Hybrid 0 0 ∷ [])) (install σ h p)
+      → Step σ K (meets K (State 0 0 ∷ Held 0 0 0 ∷ ClockSent 0 0 0 0 ∷ Carries 0 0 0 0 ∷ Waiting 0 0 0 ∷ Entry 0 0 0 ∷ Hybrid 0 0 ∷ []))
+      (install σ h p)
   delivers : (p f g : ℕ) → Delivers σ p f g
       → Step σ K (meets K (Held 0 0 0 ∷ Waiting 0 0 0 ∷ First 0 0 0 ∷ Entry 0 0 0 ∷ [])) (deliver σ p f g)
   reports : (h p : ℕ) → Serves σ h p → Step σ K (meets K (Note 0 0 ∷ [])) (report σ h p)
@@ -134,6 +137,7 @@ by-reached P x f (Reached.onward {σ} r code a b c) =
     let y = by-reached P x f r in after-any σ P y (f σ r y) code a b c
 
 -- what holds of a store and is kept by each step holds of every later store
-pub by-later : (P : Store → Type 0) {σ : Store} → P σ → ((τ : Store) → Later σ τ → P τ → (υ : Store) → Taken τ υ → P υ) → {τ : Store} → Later σ τ → P τ
+pub by-later : (P : Store → Type 0) {σ : Store} → P σ → ((τ : Store) → Later σ τ → P τ → (υ : Store) → Taken τ υ → P υ) → {τ : Store}
+    → Later σ τ → P τ
 by-later P x f Later.none = x
 by-later P x f (Later.more {τ} w code a b c) = let y = by-later P x f w in after-any τ P y (f τ w y) code a b c

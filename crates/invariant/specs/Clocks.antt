@@ -111,7 +111,8 @@ module _ (σ : Store) (I : Inv σ) (t p : ℕ) (tb : t < σ Transactions) (pb : 
     undecided = I .states .undecided;
     range = state-range σ I t p waiting (omega arith);
     early = λ t′ p′ b e. I .states .early t′ p′ b (unwritten (same (State t p) (State t′ p′)) waiting _ asked (λ x. omega arith) e .1);
-    decided = λ t′ p′ b e. I .states .decided t′ p′ b (unwritten (same (State t p) (State t′ p′)) waiting _ prepared (λ x. omega arith) e .1);
+    decided = λ t′ p′ b e. I .states .decided t′ p′ b (unwritten (same (State t p) (State t′ p′)) waiting _ prepared
+        (λ x. omega arith) e .1);
     late = λ t′ p′ l.
         by-cell (State t p) (State t′ p′)
         (λ q c. rw (← q .i) d)
@@ -155,7 +156,8 @@ module _ (σ : Store) (I : Inv σ) (t : ℕ) (tb : t < σ Transactions) (un : σ
     decided = λ t′ p′ b e d.
         by-cell (CommitTime t) (CommitTime t′)
         (λ q c. rw (c, ← q .i)
-        (largest-ge partitionsMax (λ p. eqb (σ (State t p)) prepared) (λ p. σ (Proposed t p)) p′ b (eq-eqb (σ (State t p′)) prepared (rw (q .i) e))))
+        (largest-ge partitionsMax (λ p. eqb (σ (State t p)) prepared) (λ p. σ (Proposed t p)) p′ b
+        (eq-eqb (σ (State t p′)) prepared (rw (q .i) e))))
         (λ c. rw c (I .states .decided t′ p′ b e (rw c at d)));
     late = λ t′ p′ l. le-trans (I .states .late t′ p′ l) (decide-grows t′);
   }

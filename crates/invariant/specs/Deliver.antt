@@ -80,7 +80,8 @@ module _ (σ : Store) (I : Inv σ) (p f g : ℕ) (apart : f ≡ g → ⊥) (some
         (λ m. rw (m .entry) (I .channels .later g′ q f′ 0 (suc i) t n (omega arith) (rw (m .count) (omega arith)) (rw (m .set i) at e)))
         (λ c. rw c (I .channels .fresh g′ q f′ i t n (rw c at l) (rw c at e)));
     later = λ g′ q f′ i j t n l k e. by-channel g′ q f′
-        (λ m. rw (m .clock i) (I .channels .later g′ q f′ (suc i) (suc j) t n (omega arith) (rw (m .count) (omega arith)) (rw (m .set j) at e)))
+        (λ m. rw (m .clock i) (I .channels .later g′ q f′ (suc i) (suc j) t n (omega arith) (rw (m .count) (omega arith))
+        (rw (m .set j) at e)))
         (λ c. rw c (I .channels .later g′ q f′ i j t n l (rw c at k) (rw c at e)));
     heard = λ g′ q f′ n k w. rw (deliver-own f′ q) (by-channel g′ q f′
         (λ m. rw (m .entry) (I .channels .newest g′ q f′ 0 n k (rw (m .count, w))))

@@ -32,7 +32,8 @@ module _ (σ : Store) (I : Inv σ) (G : Gossip σ) where
     note = G .note;
     shared = λ to′ f′ p g e e′.
         by-cell (Shared to f) (Shared to′ f′)
-        (λ q c. let b = lowest-le partitionsMax (λ p. holds σ f p) (λ p. σ (Note f p)) p (server-small σ (I .setup) f′ p e .1) (rw (q .j) e) in
+        (λ q c. let b = lowest-le partitionsMax (λ p. holds σ f p) (λ p. σ (Note f p)) p (server-small σ (I .setup) f′ p e .1)
+        (rw (q .j) e) in
         let n = G .note f p g e′ in
         rw (c, ← q .j) (omega arith))
         (λ c. rw c (G .shared to′ f′ p g e e′));

@@ -24,7 +24,8 @@ installs-is σ h p t e =
     (eqb-true _ _ (a .0), eqb-true _ _ (b .0), leb-true _ _ (b .1))
 
 -- a waiting one of this server that is not installed is above the version clock
-stays-above : (σ : Store) (h p t : ℕ) → installs σ h p t ≡ false → σ (State t p) ≡ waiting → writer σ t p ≡ h → versionClock σ h p < σ (CommitTime t)
+stays-above : (σ : Store) (h p t : ℕ) → installs σ h p t ≡ false → σ (State t p) ≡ waiting → writer σ t p ≡ h
+    → versionClock σ h p < σ (CommitTime t)
 stays-above σ h p t e s w = leb-false (σ (CommitTime t)) (versionClock σ h p) (rw (eq-eqb _ _ s, eq-eqb _ _ w) at e)
 
 -- a transaction with a state has been asked for, and has a place

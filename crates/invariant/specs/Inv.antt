@@ -65,7 +65,8 @@ Channels σ = record {
   -- what a waiting message carries has a commit time above what the server knows of the sender
   fresh : (g p f i t : ℕ) → (f ≡ g → ⊥) → i < σ (Waiting g p f) → member (setAt σ g p f i) t ≡ true → σ (Entry g p f) < σ (CommitTime t);
   -- and above the clock of each message before it
-  later : (g p f i j t : ℕ) → (f ≡ g → ⊥) → i < j → j < σ (Waiting g p f) → member (setAt σ g p f j) t ≡ true → clockAt σ g p f i < σ (CommitTime t);
+  later : (g p f i j t : ℕ) → (f ≡ g → ⊥) → i < j → j < σ (Waiting g p f) → member (setAt σ g p f j) t ≡ true
+      → clockAt σ g p f i < σ (CommitTime t);
   -- where no message waits, what a holder knows of the sender is at least the sender's version clock
   heard : (g p f : ℕ) → (f ≡ g → ⊥) → holds σ g p ≡ true → σ (Waiting g p f) ≡ 0 → σ (Entry f p f) ≤ σ (Entry g p f);
   -- and where one does, the newest message's clock is
@@ -82,7 +83,8 @@ Holding σ = record {
   -- the writing server holds what is installed there
   home : (t p : ℕ) → σ (State t p) ≡ installed → σ (Held (writer σ t p) p t) ≡ 1;
   -- another holder of the partition holds it, or it waits there in a message from the writing server
-  away : (t p g : ℕ) → σ (State t p) ≡ installed → holds σ g p ≡ true → (writer σ t p ≡ g → ⊥) → (σ (Held g p t) ≡ 1) ⊎ Queued σ g p (writer σ t p) t;
+  away : (t p g : ℕ) → σ (State t p) ≡ installed → holds σ g p ≡ true → (writer σ t p ≡ g → ⊥)
+      → (σ (Held g p t) ≡ 1) ⊎ Queued σ g p (writer σ t p) t;
   -- what is held anywhere is decided
   done : (h p t : ℕ) → σ (Held h p t) ≡ 1 → 0 < σ (CommitTime t);
 }

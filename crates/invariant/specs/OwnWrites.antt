@@ -108,7 +108,8 @@ module _ (σ : Store) (I : Inv σ) (O : Own σ) where
         let w = O .some t (f .there) in
         let e : σ (State t (w .0)) ≡ prepared = ⊎-elim (λ z. absurd (omega arith)) (λ z. z) (f .states (w .0) (w .1)) in
         le-trans (O .ahead t (w .0) e (f .undecided))
-        (largest-ge partitionsMax (λ p. eqb (σ (State t p)) prepared) (λ p. σ (Proposed t p)) (w .0) (w .1) (eq-eqb (σ (State t (w .0))) prepared e))
+        (largest-ge partitionsMax (λ p. eqb (σ (State t p)) prepared) (λ p. σ (Proposed t p)) (w .0) (w .1)
+        (eq-eqb (σ (State t (w .0))) prepared e))
 
     -- one that is undecided after it is another, of another session
     still : (u : ℕ) → u < σ Transactions → decide σ t (CommitTime u) ≡ 0 → (σ (CommitTime u) ≡ 0) × (σ (By t) ≡ σ (By u) → ⊥)
@@ -242,7 +243,8 @@ module _ (σ : Store) (I : Inv σ) (O : Own σ) where
       (λ q′ c′. let l = before n f u (rw (q′ .i) (sym e)) in let y = rw (c, c′) at z in absurd (omega arith))
       (λ c′. O .apart u v e (rw c at i) (rw (c, c′) at z)))
 
-  step-cache : {τ : Store} → Writing σ (Transactions ∷ CacheValue 0 0 ∷ CacheTime 0 0 ∷ By 0 ∷ CommitTime 0 ∷ KeySet 0 ∷ Value 0 0 ∷ []) τ → FromCache τ
+  step-cache : {τ : Store} → Writing σ (Transactions ∷ CacheValue 0 0 ∷ CacheTime 0 0 ∷ By 0 ∷ CommitTime 0 ∷ KeySet 0 ∷ Value 0 0 ∷ []) τ
+      → FromCache τ
   step-cache (Step.starts s f) s′ k i =
       by-test (eqb s s′ && leb (σ (CacheTime s′ k)) (snapshot σ s))
       (λ c. absurd (let z : 0 < 0 = rw c at i in omega arith))
@@ -250,8 +252,17 @@ module _ (σ : Store) (I : Inv σ) (O : Own σ) where
   step-cache (Step.asks s f q) s′ k i =
       let w = O .cached s′ k i in
       let l = w .1 .there in
-      let c = ne-eqb (σ Transactions) (w .0) (λ q. omega arith) in
-      (w .0, record { there = omega arith; by = rw c (w .1 .by); wrote = rw c (w .1 .wrote); time = w .1 .time; value = rw c (w .1 .value) })
+      let c = ne-eqb (σ Transactions) (w .0) (λ q. omega arith) in (
+        w .0,
+        record {
+          there = omega arith;
+          by = rw c (w .1 .by);
+          wrote = rw c (w .1 .wrote);
+          time = w .1 .time;
+          value = rw c
+              (w .1 .value);
+        },
+      )
   step-cache (Step.decides n f) s k i =
       let t = placeOf n in
       by-test (eqb (σ (By t)) s && member (σ (KeySet t)) k)

@@ -43,12 +43,14 @@ module _ (σ : Store) (I : Inv σ) where
   step-states (Step.commits n p f) = commit-states σ I (placeOf n) p (f .there) (small p (f .partition)) (f .state) (f .decided)
   step-states (Step.installs h p f) = install-states σ I h p
 
-  step-channels : {τ : Store} → Writing σ (Entry 0 0 0 ∷ First 0 0 0 ∷ Waiting 0 0 0 ∷ ClockSent 0 0 0 0 ∷ Carries 0 0 0 0 ∷ CommitTime 0 ∷ servers) τ → Channels τ
+  step-channels : {τ : Store}
+      → Writing σ (Entry 0 0 0 ∷ First 0 0 0 ∷ Waiting 0 0 0 ∷ ClockSent 0 0 0 0 ∷ Carries 0 0 0 0 ∷ CommitTime 0 ∷ servers) τ → Channels τ
   step-channels (Step.decides n f) = decide-channels σ I (placeOf n) (f .there) (f .undecided) (f .states)
   step-channels (Step.installs h p f) = install-channels σ I h p (f .room)
   step-channels (Step.delivers p f g w) = deliver-channels σ I p f g (w .apart) (w .some)
 
-  step-holding : {τ : Store} → Writing σ (From 0 ∷ State 0 0 ∷ Held 0 0 0 ∷ CommitTime 0 ∷ First 0 0 0 ∷ Waiting 0 0 0 ∷ Carries 0 0 0 0 ∷ servers) τ → Holding τ
+  step-holding : {τ : Store}
+      → Writing σ (From 0 ∷ State 0 0 ∷ Held 0 0 0 ∷ CommitTime 0 ∷ First 0 0 0 ∷ Waiting 0 0 0 ∷ Carries 0 0 0 0 ∷ servers) τ → Holding τ
   step-holding (Step.asks s f q) = ask-holding σ I s (f .there) (room-left σ s f q)
   step-holding (Step.prepares n p f) = state-holding σ I (placeOf n) p prepared (omega arith) (λ x. omega arith)
   step-holding (Step.decides n f) = decide-holding σ I (placeOf n) (f .there) (f .undecided) (f .states)
@@ -98,7 +100,8 @@ later-inv I = by-later Inv I (λ τ w J. step-inv τ J)
 -- what is at most every entry stays so
 step-below : (σ : Store) → Inv σ → (S : ℕ) → Below σ S → {τ : Store} → Writing σ (Entry 0 0 0 ∷ servers) τ → Below τ S
 step-below σ I S B (Step.installs h p f) = λ h′ p′ g e e′. le-trans (B h′ p′ g e e′) (install-grown σ I h p h′ p′ g)
-step-below σ I S B (Step.delivers p f g w) = λ h′ p′ g′ e e′. le-trans (B h′ p′ g′ e e′) (deliver-grown σ I p f g (w .apart) (w .some) h′ p′ g′)
+step-below σ I S B (Step.delivers p f g w) = λ h′ p′ g′ e e′. le-trans (B h′ p′ g′ e e′)
+    (deliver-grown σ I p f g (w .apart) (w .some) h′ p′ g′)
 
 pub later-below : {σ τ : Store} → Inv σ → (S : ℕ) → Below σ S → Later σ τ → Below τ S
 later-below I S B =

@@ -62,7 +62,8 @@ merge-either P Nothing b x y = y
 merge-either P (Seen v s) Nothing x y = x
 merge-either P (Seen v s) (Seen w t) x y = by-test (later t s) (λ c. rw c y) (λ c. rw c x)
 
--- Views of one store. "equal stamps of a key carry equal values": stamps that are equal are of one transaction. Of every store, so of every reached one.
+-- Views of one store. "equal stamps of a key carry equal values": stamps that are equal are of one transaction. Of every store, so of every
+-- reached one.
 pub equal-stamps : (σ : Store) (k t u : ℕ)
     → stampOf σ t ≡ stampOf σ u → (t ≡ u) × (σ (Value t k) ≡ σ (Value u k))
 equal-stamps σ k t u e =
@@ -163,7 +164,8 @@ module _ (σ : Store) (k S : ℕ) where
   -- views of one store merge in either order
   pub view-comm : (xs ys : List ℕ) → merge (viewOf σ k S xs) (viewOf σ k S ys) ≡ merge (viewOf σ k S ys) (viewOf σ k S xs)
   view-comm xs ys =
-      merge-comm (viewOf σ k S xs) (viewOf σ k S ys) (of-agree σ k (wroteBy σ k S) (viewOf σ k S xs) (viewOf σ k S ys) (of-view xs) (of-view ys))
+      merge-comm (viewOf σ k S xs) (viewOf σ k S ys) (of-agree σ k (wroteBy σ k S) (viewOf σ k S xs) (viewOf σ k S ys) (of-view xs)
+      (of-view ys))
 
   -- Two lists with the same members give the same view, whatever their order, their grouping and their repeats.
   pub same-view : (xs ys : List ℕ) → ((t : ℕ) → List·Memᴰ t xs ↔ List·Memᴰ t ys) → viewOf σ k S xs ≡ viewOf σ k S ys

@@ -41,9 +41,9 @@ start-after-move σ s h p e =
     rw (moved σ s h p e, lt-ltb s (σ Sessions) (f .there), f .rests, eqb-refl s) (refl, refl)
 
 module _ {σ τ : Store} (r : Reached σ) (w : Later σ τ) where
-  -- After a session's transaction t is decided, wherever the session is carried, a read of a key that t wrote, and that the session has not written since
-  -- its start, answers what t wrote or what a transaction with a later stamp wrote: from the cache while its commit time is above S, from the snapshot
-  -- after (`Shows`).
+  -- After a session's transaction t is decided, wherever the session is carried, a read of a key that t wrote, and that the session has not
+  -- written since its start, answers what t wrote or what a transaction with a later stamp wrote: from the cache while its commit time is
+  -- above S, from the snapshot after (`Shows`).
   pub read-your-writes-later : (t k h : ℕ) → 0 < σ (CommitTime t) → member (σ (KeySet t)) k ≡ true → Looks τ (σ (By t)) k h
       → ShowsNoOlder τ (σ (By t)) k h (stampOf σ t)
   read-your-writes-later t k h d m L =
@@ -52,8 +52,8 @@ module _ {σ τ : Store} (r : Reached σ) (w : Later σ τ) where
       rw (← time, ← K .from)
       (reads-no-older (reached-later r w) (σ (By t)) t k h L (rw time d) (inr (K .by)) (rw (K .keys) m))
 
-  -- Two reads of a session of a key that it has not written since its start, wherever it was carried between: what the first finds, the second finds too,
-  -- or something with a later stamp.
+  -- Two reads of a session of a key that it has not written since its start, wherever it was carried between: what the first finds, the
+  -- second finds too, or something with a later stamp.
   pub never-older : (s k g h : ℕ) → Looks σ s k g → numbers (answer σ 3 s k g) .first ≡ 1 → Looks τ s k h
       → (t : ℕ) × Shows σ s k g t × ShowsNoOlder τ s k h (stampOf σ t)
   never-older s k g h L one M =

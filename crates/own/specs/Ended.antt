@@ -41,7 +41,8 @@ Other s k code a b = (code ≡ 4 → a ≡ s → b ≡ k → ⊥) × (code ≡ 5
 -- τ comes from σ by steps, of which none that is taken is a write of key k by session s or an end of it
 pub data Meanwhile (s k : ℕ) (σ : Store) : Store → Type 0 where
   none : Meanwhile s k σ σ
-  more : {τ : Store} → Meanwhile s k σ τ → (code a b c : ℕ) → (refusal τ code a b c ≡ 0 → Other s k code a b) → Meanwhile s k σ (after τ code a b c)
+  more : {τ : Store} → Meanwhile s k σ τ → (code a b c : ℕ) → (refusal τ code a b c ≡ 0 → Other s k code a b)
+      → Meanwhile s k σ (after τ code a b c)
 
 meanwhile-later : (s k : ℕ) {σ τ : Store} → Meanwhile s k σ τ → Later σ τ
 meanwhile-later s k Meanwhile.none = Later.none
@@ -172,8 +173,8 @@ end-comes-to : (σ : Store) (s : ℕ) → refusal σ 5 s 0 0 ≡ 0 → (after σ
 unfolding refusal after answer ruleOf
 end-comes-to σ s e = rw (eq-eqb _ _ e) (refl, refl)
 
--- An end with writes that is taken answers the "transaction number (1, 2, .. in order of request) and number of partitions written", and session,
--- coordinator's hall, keys and values of that transaction are those of the session. In any store.
+-- An end with writes that is taken answers the "transaction number (1, 2, .. in order of request) and number of partitions written", and
+-- session, coordinator's hall, keys and values of that transaction are those of the session. In any store.
 pub ended : (σ : Store) (s : ℕ) → refusal σ 5 s 0 0 ≡ 0 → hasWrites σ s ≡ true
     → (numbers (answer σ 5 s 0 0) ≡ triple 0 (numberOf (σ Transactions)) (count partitionsMax (touches σ (σ (WriteSet s)))))
     × Ended σ (after σ 5 s 0 0) s
@@ -198,8 +199,11 @@ pub ended-fresh : {σ : Store} → Reached σ → (s : ℕ) → refusal σ 5 s 0
     × ((p : ℕ) → touches σ (σ (WriteSet s)) p ≡ false → after σ 5 s 0 0 (State (σ Transactions) p) ≡ 0)
 ended-fresh {σ} r s e w =
     let I = reached-inv r in
-    rw (end-comes-to σ s e .0, w)
-    (I .states .undecided (σ Transactions) (le-refl _), λ p c. rw (eqb-refl (σ Transactions), c) (I .states .free (σ Transactions) p (le-refl _)))
+    rw (end-comes-to σ s e .0, w) (
+      I .states .undecided (σ Transactions) (le-refl _),
+      λ p c. rw (eqb-refl (σ Transactions), c)
+          (I .states .free (σ Transactions) p (le-refl _)),
+    )
 
 -- transaction t of υ is what session s ended with at hall h, and what it wrote to key k is v
 abbrev pub IsWrite : Store → ℕ → ℕ → ℕ → ℕ → ℕ → Type 0
@@ -220,8 +224,8 @@ written-key : (σ : Store) (s k v : ℕ) → refusal σ 4 s k v ≡ 0 → k < ke
 unfolding refusal ruleOf
 written-key σ s k v e = write-facts σ s k v e .key
 
--- A write that is taken, of a key that the session does not write again before its end: what any later read shows of the transaction is that value,
--- under the hall that the session ended at.
+-- A write that is taken, of a key that the session does not write again before its end: what any later read shows of the transaction is
+-- that value, under the hall that the session ended at.
 pub shows-last-write : {σ τ υ : Store} → Reached σ → (s k v : ℕ) → refusal σ 4 s k v ≡ 0 → Meanwhile s k (after σ 4 s k v) τ
     → refusal τ 5 s 0 0 ≡ 0 → Later (after τ 5 s 0 0) υ → IsWrite υ (τ Transactions) s (τ (HomeHall s)) k v
 shows-last-write {σ} {τ} {υ} r s k v e m f l =
@@ -381,8 +385,8 @@ looks σ s k h e n =
     let f = read-facts σ s k h e in
     record { there = f .there; runs = f .runs; key = f .key; holder = f .server; unwritten = n }
 
--- What a read finds was written: by its session, which has not ended since; or it is a transaction's, and what that one's session wrote last to the key
--- before it ended.
+-- What a read finds was written: by its session, which has not ended since; or it is a transaction's, and what that one's session wrote
+-- last to the key before it ended.
 pub read-written : {υ : Store} → Reached υ → (s k h : ℕ) → refusal υ 3 s k h ≡ 0 → numbers (answer υ 3 s k h) .first ≡ 1
     → ((σ : Store) × LastWrite σ υ s k (numbers (answer υ 3 s k h) .second))
     ⊎ ((t : ℕ) × Shows υ s k h t × ((σ : Store) × (τ : Store) × WrittenBy σ τ υ t k))

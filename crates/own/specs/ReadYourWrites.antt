@@ -39,8 +39,8 @@ Looks σ s k h = record {
   unwritten : member (σ (WriteSet s)) k ≡ false;
 }
 
--- Session s's read of key k at hall h answers what a decided transaction u wrote to it: from the cache while u's commit time is above the session's
--- snapshot, from the snapshot after.
+-- Session s's read of key k at hall h answers what a decided transaction u wrote to it: from the cache while u's commit time is above the
+-- session's snapshot, from the snapshot after.
 abbrev pub Shows : Store → ℕ → ℕ → ℕ → ℕ → Type 0
 Shows σ s k h u = record {
   there : u < σ Transactions;
@@ -63,8 +63,8 @@ not-later σ t u l one =
     (λ q c. rw (one (sym q)) (later-self (stampOf σ u)))
     (λ q c. rw (c, le-ltb (σ (CommitTime u)) (σ (CommitTime t)) l))
 
--- A session reads a key that a decided transaction t wrote: one at or below its snapshot, or one of its own. At any hall that holds the key the read is
--- taken, and answers what t wrote or what a transaction with a later stamp wrote.
+-- A session reads a key that a decided transaction t wrote: one at or below its snapshot, or one of its own. At any hall that holds the key
+-- the read is taken, and answers what t wrote or what a transaction with a later stamp wrote.
 pub reads-no-older : {σ : Store} → Reached σ → (s t k h : ℕ) → Looks σ s k h
     → 0 < σ (CommitTime t) → (σ (CommitTime t) ≤ σ (Snapshot s)) ⊎ (σ (By t) ≡ s) → member (σ (KeySet t)) k ≡ true
     → ShowsNoOlder σ s k h (stampOf σ t)
@@ -127,7 +127,8 @@ reads-no-older {σ} r s t k h L d which m =
 pub read-shows : {σ : Store} → Reached σ → (s k h : ℕ) → Looks σ s k h → numbers (answer σ 3 s k h) .first ≡ 1 → (t : ℕ) × Shows σ s k h t
 read-shows {σ} r s k h L one =
     let S = σ (Snapshot s) in
-    let shows : (t : ℕ) → 0 < σ (CommitTime t) → (σ (CommitTime t) ≤ S) ⊎ (σ (By t) ≡ s) → member (σ (KeySet t)) k ≡ true → (u : ℕ) × Shows σ s k h u =
+    let shows : (t : ℕ) → 0 < σ (CommitTime t) → (σ (CommitTime t) ≤ S) ⊎ (σ (By t) ≡ s) → member (σ (KeySet t)) k ≡ true →
+    (u : ℕ) × Shows σ s k h u =
     λ t d which m. let x = reads-no-older r s t k h L d which m in (x .1 .0, x .1 .1) in
     by-test (ltb 0 (σ (CacheTime s k)))
     (λ c.
@@ -148,8 +149,8 @@ read-shows {σ} r s k h L one =
     shows t (ltb-true _ _ (x .0)) (inl (leb-true _ _ (y .1))) (y .0))
     (of-all σ k S placesMax (λ t. decided σ t && wroteBy σ k S t)))
 
--- A running session reads a key that it wrote in an earlier transaction t and has not written since its start. At any hall that holds the key the read
--- is taken, and answers what t wrote or what a transaction with a later stamp wrote.
+-- A running session reads a key that it wrote in an earlier transaction t and has not written since its start. At any hall that holds the
+-- key the read is taken, and answers what t wrote or what a transaction with a later stamp wrote.
 pub read-your-writes : {σ : Store} → Reached σ → (s t k h : ℕ) → σ (Status s) ≡ running
     → t < σ Transactions → σ (By t) ≡ s → member (σ (KeySet t)) k ≡ true
     → k < keys → holds σ h (partitionOf σ k) ≡ true → member (σ (WriteSet s)) k ≡ false

@@ -52,7 +52,8 @@ module _ (σ : Store) (s : ℕ) (there : s < σ Sessions) where
         (w .0, rw (w .1) runs)
 
     -- So is its read at a hall that holds the key.
-    pub read-taken : (k h : ℕ) → k < keys → holds σ h (partitionOf σ k) ≡ true → (refusal σ 3 s k h ≡ 0) × (after σ 3 s k h (Status s) ≡ running)
+    pub read-taken : (k h : ℕ) → k < keys → holds σ h (partitionOf σ k) ≡ true
+        → (refusal σ 3 s k h ≡ 0) × (after σ 3 s k h (Status s) ≡ running)
     unfolding ruleOf
     read-taken k h kb e =
         let w = by-rule σ (call 3 s k h) (readRule σ s k h) refl
@@ -135,7 +136,8 @@ module _ {σ : Store} (r : Reached σ) where
         let all : allPrepared σ t ≡ true = all-i partitionsMax _ (λ p _. by-eq (σ (State t p)) 0
         (λ q c. rw c)
         (λ q c. rw (c, done p (pair-there r t p (omega arith) .2)))) in
-        let w = by-rule σ (call 7 (numberOf t) 0 0) (decideRule σ (numberOf t) 0 0) refl (rw (number-there σ t there, place-of t, all, un)) in
+        let w = by-rule σ (call 7 (numberOf t) 0 0) (decideRule σ (numberOf t) 0 0) refl
+        (rw (number-there σ t there, place-of t, all, un)) in
         (w .0, w .1 ∙ rw (place-of t))
 
     -- It can be decided. It has a commit time then, and its session is idle.
@@ -143,7 +145,8 @@ module _ {σ : Store} (r : Reached σ) where
         × (0 < after σ 7 (numberOf t) 0 0 (CommitTime t))
         × (after σ 7 (numberOf t) 0 0 (Status (σ (By t))) ≡ idle)
     decide-taken =
-        let z = decision-some r t there (λ p _. by-eq (σ (State t p)) 0 (λ q _. inl q) (λ q _. inr (done p (pair-there r t p (omega arith) .2)))) in
+        let z = decision-some r t there (λ p _. by-eq (σ (State t p)) 0 (λ q _. inl q)
+        (λ q _. inr (done p (pair-there r t p (omega arith) .2)))) in
         let w = decides in
         (w .0, rw (w .1, eqb-refl t) z, rw (w .1, eqb-refl (σ (By t))))
 
@@ -197,15 +200,18 @@ module _ (σ : Store) (I : Inv σ) (W : Waits σ) where
       (λ d. (w .0, record { there = w .1 .there; by = w .1 .by; undecided = rw d (w .1 .undecided) })))
 
   step-waits : {τ : Store} → Writing σ (Status 0 ∷ Transactions ∷ By 0 ∷ CommitTime 0 ∷ []) τ → Waits τ
-  step-waits (Step.starts s₀ f) = λ s st. W s (unwritten (same (Status s₀) (Status s)) running (σ (Status s)) committing (λ x. omega arith) st .1)
+  step-waits (Step.starts s₀ f) = λ s st. W s (unwritten (same (Status s₀) (Status s)) running (σ (Status s)) committing
+      (λ x. omega arith) st .1)
   step-waits (Step.asks s₀ f q) = ask-waits s₀
-  step-waits (Step.rests s₀ f q) = λ s st. W s (unwritten (same (Status s₀) (Status s)) idle (σ (Status s)) committing (λ x. omega arith) st .1)
+  step-waits (Step.rests s₀ f q) = λ s st. W s (unwritten (same (Status s₀) (Status s)) idle (σ (Status s)) committing
+      (λ x. omega arith) st .1)
   step-waits (Step.decides n f) = decide-waits (placeOf n)
 
 -- A committing session waits for a transaction of its own that is undecided, and for no other.
 pub awaits : {σ : Store} → Reached σ → (s : ℕ) → σ (Status s) ≡ committing → (t : ℕ) × Awaits σ s t × ((u : ℕ) → Awaits σ s u → u ≡ t)
 awaits {σ} r s st =
-    let w = by-reached Waits (λ masks homes e s st. absurd (omega arith)) (λ σ r W τ x. over Waits x (step-waits σ (reached-inv r) W) W) r s st in
+    let w = by-reached Waits (λ masks homes e s st. absurd (omega arith)) (λ σ r W τ x. over Waits x
+    (step-waits σ (reached-inv r) W) W) r s st in
     let A = w .1 in
     (w .0, A, λ u B. reached-own r .one u (w .0) (B .there) (A .there) (B .by ∙ sym (A .by)) (B .undecided) (A .undecided))
 
@@ -261,7 +267,8 @@ never-stuck {σ} r s there =
             (λ c. let w = any-true partitionsMax (λ p. eqb (σ (State t p)) asked) c in
             inl (w .0, prepare-taken r t (w .0) (eqb-true _ _ (w .2)) .0))
             (λ c. inr (decide-taken r t (x .1 .there) (x .1 .undecided)
-            (ready r s t (x .1) (λ p b e. eqb-false (σ (State t p)) asked (any-false partitionsMax (λ p. eqb (σ (State t p)) asked) p b c) e)) .0)),
+            (ready r s t (x .1) (λ p b e. eqb-false (σ (State t p)) asked (any-false partitionsMax
+            (λ p. eqb (σ (State t p)) asked) p b c) e)) .0)),
       ),
     ))))
 
@@ -358,7 +365,8 @@ unfolding run AllTaken
 readers-exist {σ} r s k there kb =
     let F = formed σ (reached-well-formed r) in
     let l = F .status s (le-trans there (reached-inv r .setup .sessions)) in
-    let reads : (τ : Store) → Reached τ → s < τ Sessions → τ (Status s) ≡ running → (τ (Status s) ≡ running) × ((h : ℕ) × (refusal τ 3 s k h ≡ 0)) =
+    let reads : (τ : Store) → Reached τ → s < τ Sessions → τ (Status s) ≡ running → (τ (Status s) ≡ running) ×
+    ((h : ℕ) × (refusal τ 3 s k h ≡ 0)) =
     λ τ r′ b q. let w = read-somewhere r′ s k b q kb in (q, (w .0, w .1)) in
     let starts : (τ : Store) → Rests s τ
     → (refusal τ 2 s 0 0 ≡ 0) × ((after τ 2 s 0 0 (Status s) ≡ running) × ((h : ℕ) × (refusal (after τ 2 s 0 0) 3 s k h ≡ 0))) =
@@ -392,7 +400,8 @@ step-between σ B (Step.delivers p f g w) = λ g′ q f′ l.
 pub deliver-taken : {σ : Store} → Reached σ → (p f g : ℕ) → 0 < σ (Waiting g p f) → refusal σ 10 p f g ≡ 0
 unfolding ruleOf
 deliver-taken {σ} r p f g l =
-    let w = by-reached Between (λ masks homes e g p f l. absurd (omega arith)) (λ σ r B τ x. over Between x (step-between σ B) B) r g p f l in
+    let w = by-reached Between (λ masks homes e g p f l. absurd (omega arith))
+    (λ σ r B τ x. over Between x (step-between σ B) B) r g p f l in
     by-rule σ (call 10 p f g) (deliverRule σ p f g) refl
     (rw (w .0, w .1, ne-eqb f g (w .2), ne-eqb (σ (Waiting g p f)) 0 (λ e. omega arith))) .0
 

@@ -1,4 +1,5 @@
--- "Each server writes only its own stretch .. for clocks, vector and versions held": a step is at one server at most, and changes no other's.
+-- "Each server writes only its own stretch .. for clocks, vector and versions held": a step is at one server at most, and changes no
+-- other's.
 use Prim.Native.Nat.{ℕ}
 use mathlib.Core.Bool.{Bool, true, false, cond, _&&_, _||_, true≢false}
 use mathlib.Core.Path.{_≡_, refl, sym, _∙_}
@@ -13,8 +14,8 @@ use Rattle.book.specs.Steps.{Rule, by-code, _also_, refusal, after, tickRule, s
 abbrev isServer : ℕ → ℕ → ℕ → ℕ → Bool
 isServer x y h p = eqb x h && eqb y p
 
--- Server (h, p) is the one that a step is at: the coordinator of a start, the writing server of a prepare and a commit, the receiver of a delivery,
--- the server that a tick, an install or a learn names.
+-- Server (h, p) is the one that a step is at: the coordinator of a start, the writing server of a prepare and a commit, the receiver of a
+-- delivery, the server that a tick, an install or a learn names.
 abbrev pub isAt : Store → ℕ → ℕ → ℕ → ℕ → ℕ → ℕ → Bool
 isAt σ code a b c h p =
     cond (eqb code 1 || (eqb code 9 || eqb code 13)) (isServer a b h p)

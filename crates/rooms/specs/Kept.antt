@@ -41,7 +41,8 @@ pub room-bound : {r : List ℕ} → ReachedRoom r
 room-bound R = bound (reached-store R)
 
 -- A quiet install changes no word of a reached room.
-pub quiet-no-word : {r : List ℕ} {h p : ℕ} {x : Answer} {late : List ℕ} → ReachedRoom r → holds (store r) h p ≡ true → isQuiet (store r) h p ≡ true
+pub quiet-no-word : {r : List ℕ} {h p : ℕ} {x : Answer} {late : List ℕ} → ReachedRoom r → holds (store r) h p ≡ true
+    → isQuiet (store r) h p ≡ true
     → Stepped r 9 h p 0 x late → (given x ≡ 0) × (late ≡ r)
 quiet-no-word {h = h} {p = p} R e quiet s =
     let w = quiet-install (reached-store R) h p e quiet in

@@ -46,7 +46,8 @@ setup-good {r} o z =
     (λ e. let f : _≡_ {A = ℕ} 1 0 = rw e at (sym (setup-gives o) ∙ z) in absurd (omega arith))
 
 -- leaves the store of its numbers
-pub setup-store : {r masks homes : List ℕ} {x : Answer} {late : List ℕ} → Outcome r masks homes x late → given x ≡ 0 → store late ≡ firstStore masks homes
+pub setup-store : {r masks homes : List ℕ} {x : Answer} {late : List ℕ} → Outcome r masks homes x late → given x ≡ 0
+    → store late ≡ firstStore masks homes
 setup-store o z = let w = setup-good o z in rw (w .0, w .1) at (o .store)
 
 record Laid (r : List ℕ) : Type 0 where

@@ -46,9 +46,10 @@ shows w v = record { taken = ap given v ∙ view-taken w; view = v; answers = ap
 same-view : {r : List ℕ} (R : ReachedRoom r) (k S : ℕ) → everView (decidedEver (reached-store R)) k S ≡ everView (decidedIn R) k S
 same-view {r} R k S = ever-decided (reached-store R) k S ∙ sym (ledger-view (store r) (room-ledger R) k S)
 
--- "is answered in that step by any hall holding the key, and equals the merge of ALL transactions decided so far with commit time at or below its
--- snapshot"
-pub room-read : {r : List ℕ} {s k h : ℕ} {x : Answer} {late : List ℕ} (R : ReachedRoom r) → Fetches (store r) s k h → Stepped r 3 s k h x late
+-- "is answered in that step by any hall holding the key, and equals the merge of ALL transactions decided so far with commit time at or
+-- below its snapshot"
+pub room-read : {r : List ℕ} {s k h : ℕ} {x : Answer} {late : List ℕ} (R : ReachedRoom r) → Fetches (store r) s k h
+    → Stepped r 3 s k h x late
     → Shows (viewIn R s k) x
 room-read {r} {s} {k} {h} R f z =
     shows (viewIn R s k)

@@ -30,7 +30,8 @@ abbrev pub Unchanged : List ℕ → Answer → List ℕ → Type 0
 Unchanged r x late = record { words : late ≡ r; zeros : numbers x ≡ triple (given x) 0 0 }
 
 -- A step that is turned away, whatever the room and the numbers, 1 among the reasons.
-pub step-unchanged : {r : List ℕ} {code a b c : ℕ} {x : Answer} {late : List ℕ} → Stepped r code a b c x late → (given x ≡ 0 → ⊥) → Unchanged r x late
+pub step-unchanged : {r : List ℕ} {code a b c : ℕ} {x : Answer} {late : List ℕ} → Stepped r code a b c x late → (given x ≡ 0 → ⊥)
+    → Unchanged r x late
 step-unchanged {r} {code} {a} {b} {c} {x} {late} s n =
     by-test (sound r)
     (λ e. let q : x ≡ answer (store r) code a b c = rw e at (s .answer) in
@@ -51,7 +52,8 @@ setup-gives {r} {masks} {homes} o =
     (λ e. rw e)
 
 -- A setup that is turned away.
-pub setup-unchanged : {r masks homes : List ℕ} {x : Answer} {late : List ℕ} → Outcome r masks homes x late → (given x ≡ 0 → ⊥) → Unchanged r x late
+pub setup-unchanged : {r masks homes : List ℕ} {x : Answer} {late : List ℕ} → Outcome r masks homes x late → (given x ≡ 0 → ⊥)
+    → Unchanged r x late
 unfolding setupAnswer
 setup-unchanged {r} {masks} {homes} {x} o n =
     by-test (eqb (length r) size)
@@ -63,7 +65,8 @@ setup-unchanged {r} {masks} {homes} {x} o n =
     record { words = rw e at (o .room); zeros = ap numbers q ∙ ap (λ (k : ℕ). triple k 0 0) (sym (ap given q)) })
 
 -- 1: "room of wrong length; or, except at setup, a room that isn't well formed", given exactly when
-pub one-exactly : {r : List ℕ} {code a b c : ℕ} {x : Answer} {late : List ℕ} → Stepped r code a b c x late → (given x ≡ 1) ↔ (sound r ≡ false)
+pub one-exactly : {r : List ℕ} {code a b c : ℕ} {x : Answer} {late : List ℕ} → Stepped r code a b c x late
+    → (given x ≡ 1) ↔ (sound r ≡ false)
 one-exactly {r} {code} {a} {b} {c} {x} s = (
   λ e. by-test (sound r)
       (λ t. let g : given x ≡ refusal (store r) code a b c = rw t at (ap given (s .answer)) ∙ answer-refusal (store r) code a b c in

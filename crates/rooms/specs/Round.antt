@@ -35,7 +35,8 @@ unfolding run
 called-store R Called.none = refl
 called-store R (Called.more s k) = called-store (ReachedRoom.onward R s) k ∙ rw (reached-step R s .1)
 
-called-taken : {r late : List ℕ} {l : List Call} {xs : List Answer} → ReachedRoom r → Called r l xs late → AllTaken (store r) l → NoneAway xs
+called-taken : {r late : List ℕ} {l : List Call} {xs : List Answer} → ReachedRoom r → Called r l xs late → AllTaken (store r) l
+    → NoneAway xs
 unfolding AllTaken NoneAway
 called-taken R Called.none a = tt
 called-taken R (Called.more s k) a =
@@ -46,9 +47,10 @@ unfolding run AllTaken
 taken-parts [] m σ a = (tt, a)
 taken-parts (x ∷ l) m σ a = let w = taken-parts l m (afterOf σ x) (a .1) in ((a .0, w .0), w .1)
 
--- Take a reached room with no prepared transaction and empty channels. `step` is called for an install at each server, which leaves the room mid; for a
--- delivery in each channel that then holds a message, a report of each server, a share from each hall to each and a learn at each server, in any
--- order inside each of these groups and nothing between. None is turned away, and in the room then left every stable time is at least L.
+-- Take a reached room with no prepared transaction and empty channels. `step` is called for an install at each server, which leaves the
+-- room mid; for a delivery in each channel that then holds a message, a report of each server, a share from each hall to each and a learn
+-- at each server, in any order inside each of these groups and nothing between. None is turned away, and in the room then left every stable
+-- time is at least L.
 pub room-round : {r mid late : List ℕ} → ReachedRoom r
     → ((t p : ℕ) → t < placesMax → p < partitionsMax → store r (State t p) ≡ prepared → ⊥)
     → ((p f g : ℕ) → isChannel (store r) p f g ≡ true → store r (Waiting g p f) ≡ 0)

@@ -19,7 +19,8 @@ use Rattle.room.specs.Stretch.{five, own-i, stretch-cells}
 use Rattle.store.specs.Face.{Stepped, sound}
 
 -- a cell of a server whose stretch stays
-same-cell : (σ τ : Store) (h p k l : ℕ) → SameStretch σ τ h p → (n : ℕ) → 5 ≤ n → n ≤ 9 → Within (cell n h p k l) → τ (cell n h p k l) ≡ σ (cell n h p k l)
+same-cell : (σ τ : Store) (h p k l : ℕ) → SameStretch σ τ h p → (n : ℕ) → 5 ≤ n → n ≤ 9 → Within (cell n h p k l)
+    → τ (cell n h p k l) ≡ σ (cell n h p k l)
 same-cell σ τ h p k l S =
     five (λ n. Within (cell n h p k l) → τ (cell n h p k l) ≡ σ (cell n h p k l))
     (λ w. let a : k ≡ 0 = omega (arith, w .3) in let b : l ≡ 0 = omega (arith, w .4) in rw (a, b) (S .reading))
@@ -43,8 +44,10 @@ room-own-stretch {r} {code} {a} {b} {c} {x} {late} s h p hh hp e w low high =
     let k3 = and-true (eqb h (d .i)) _ (k2 .1) in
     let qi = eqb-true h (d .i) (k3 .0) in
     let qj = eqb-true p (d .j) (k3 .1) in
-    let S : SameStretch (store r) (store late) (d .i) (d .j) = rw (← qi, ← qj) (rw (s .store, t) (own-stretch (store r) code a b c h p e)) in
-    let q = same-cell (store r) (store late) (d .i) (d .j) (d .k) (d .l) S (d .kind) (leb-true _ _ (k1 .0)) (leb-true _ _ (k2 .0)) (valid-within d (v .1)) in
+    let S : SameStretch (store r) (store late) (d .i) (d .j) = rw (← qi, ← qj)
+    (rw (s .store, t) (own-stretch (store r) code a b c h p e)) in
+    let q = same-cell (store r) (store late) (d .i) (d .j) (d .k) (d .l) S (d .kind) (leb-true _ _ (k1 .0)) (leb-true _ _ (k2 .0))
+    (valid-within d (v .1)) in
     ap (λ (z : ℕ). getD late z 0) (sym (v .0)) ∙ store-get late d (valid-within d (v .1)) ∙ q
     ∙ sym (store-get r d (valid-within d (v .1))) ∙ ap (λ (z : ℕ). getD r z 0) (v .0))
     (λ t. ap (λ (y : List ℕ). getD y w 0) (rw t at (s .room)))

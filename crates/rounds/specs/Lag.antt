@@ -43,7 +43,8 @@ module _ {σ : Store} (r : Reached σ) (s : ℕ) where
     home : holds σ (σ (HomeHall s)) (σ (HomePartition s)) ≡ true
     home = coordinator-holds σ (reached-inv r) s taken
 
-    -- So the lag, its second answer, is all that the present has above S: "the coordinator's hybrid clock, or its reading if larger, minus S".
+    -- So the lag, its second answer, is all that the present has above S: "the coordinator's hybrid clock, or its reading if larger, minus
+    -- S".
     pub lag-whole : told σ s ≡ present σ (σ (HomeHall s)) (σ (HomePartition s))
     lag-whole = let l = never-larger (σ (HomeHall s)) (σ (HomePartition s)) home in rw (start-answers σ s taken) (omega arith)
 
@@ -55,7 +56,8 @@ module _ {σ : Store} (r : Reached σ) (s : ℕ) where
           rw lag-whole (omega arith)
 
       -- What is prepared there was proposed a time above S, within the lag.
-      pub lag-prepared : stateThere σ s t ≡ prepared → (snapshot σ s < σ (Proposed t (σ (HomePartition s)))) × (σ (Proposed t (σ (HomePartition s))) ≤ told σ s)
+      pub lag-prepared : stateThere σ s t ≡ prepared
+          → (snapshot σ s < σ (Proposed t (σ (HomePartition s)))) × (σ (Proposed t (σ (HomePartition s))) ≤ told σ s)
       lag-prepared e =
           let I = reached-inv r in
           let k = snapshot-below σ I (reached-gossip r) s (σ (HomeHall s)) (σ (HomePartition s)) (σ (HomeHall s)) home home in

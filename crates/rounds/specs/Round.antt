@@ -83,8 +83,8 @@ module _ (σ : Store) (U : Setup σ) (L : ℕ) where
       (λ d. rw (c, d)))
       (λ c. rw c)
 
-  -- 1. Installs: a server that has not had its turn finds its channels empty, and the others know its clock; one that had it has a clock of L
-  -- or more, and it sent that, or was quiet and the others know it
+  -- 1. Installs: a server that has not had its turn finds its channels empty, and the others know its clock; one that had it has a clock of
+  -- L or more, and it sent that, or was quiet and the others know it
   abbrev Keep1 : Store → Type 0
   Keep1 τ = record {
     fixed : Fixed τ;
@@ -118,7 +118,8 @@ module _ (σ : Store) (U : Setup σ) (L : ℕ) where
   clock-high τ K h p e =
       by-test (hasPrepared τ h p)
       (λ c. let w = any-true placesMax (preparedAt τ h p) c in
-      absurd (K .idle (w .0) p (w .1) (server-small σ U h p e .1) (eqb-true _ _ (and-true (eqb (τ (State (w .0) p)) prepared) _ (w .2) .0))))
+      absurd (K .idle (w .0) p (w .1) (server-small σ U h p e .1) (eqb-true _ _
+      (and-true (eqb (τ (State (w .0) p)) prepared) _ (w .2) .0))))
       (λ c. rw c (K .high h p e))
 
   -- a channel of the server gets a message, where the install is not quiet
@@ -162,7 +163,11 @@ module _ (σ : Store) (U : Setup σ) (L : ℕ) where
         others = λ g e. by-test (isQuiet τ (x .a) (x .b))
             (λ q. let same = quiet-clock τ (x .a) (x .b) q in
             let known = T .heard g e in
-            inr (record { none = rw (quiet-silent τ (x .a) (x .b) q g (x .b) (x .a)) (T .empty g e); entry = rw (install-other τ (x .a) (x .b) g (x .b) (x .a) (channel-is (x .b) (x .a) g e .2)) (omega arith) }))
+            inr (record {
+              none = rw (quiet-silent τ (x .a) (x .b) q g (x .b) (x .a)) (T .empty g e);
+              entry = rw
+                  (install-other τ (x .a) (x .b) g (x .b) (x .a) (channel-is (x .b) (x .a) g e .2)) (omega arith);
+            }))
             (λ q. let o = goes x τ K q g e in
             let first : eqb (nextSlot τ g (x .b) (x .a)) (slotOf τ g (x .b) (x .a) 0) ≡ true =
             rw (T .empty g e) (eqb-refl (slotOf τ g (x .b) (x .a) 0)) in
@@ -181,7 +186,8 @@ module _ (σ : Store) (U : Setup σ) (L : ℕ) where
 
   stay1 : (x y : Call) (τ : Store) → Keep1 τ → Todo1 x τ → sameCall x y ≡ false → Done1 y τ → Done1 y (install τ (x .a) (x .b))
   stay1 x y τ K T n D =
-      let other : (g : ℕ) → outgoing τ (x .a) (x .b) g (y .b) (y .a) ≡ false = λ g. apart 9 x y (T .at) (D .at) n (sendsTo τ (x .a) (x .b) g) in
+      let other : (g : ℕ) → outgoing τ (x .a) (x .b) g (y .b) (y .a) ≡ false = λ g. apart 9 x y (T .at) (D .at) n
+      (sendsTo τ (x .a) (x .b) g) in
       record {
         at = D .at;
         own = by-test (same (Entry (x .a) (x .b) (x .a)) (Entry (y .a) (y .b) (y .a)))
@@ -189,14 +195,24 @@ module _ (σ : Store) (U : Setup σ) (L : ℕ) where
             (λ c. rw c (D .own));
         others = λ g e. ⊎-map
             (λ t. record { one = rw (other g) (t .one); sent = rw (other g) (t .sent) })
-            (λ k. record { none = rw (other g) (k .none); entry = rw (install-other τ (x .a) (x .b) g (y .b) (y .a) (channel-is (y .b) (y .a) g e .2)) (k .entry) })
+            (λ k. record {
+              none = rw (other g) (k .none);
+              entry = rw (install-other τ (x .a) (x .b) g (y .b) (y .a)
+                  (channel-is (y .b) (y .a) g e .2)) (k .entry);
+            })
             (D .others g e);
       }
 
-  -- 2. Deliveries: a channel that has not had its turn has its one message; one that had it has that message's clock in the entry. Where the
-  -- store μ after the installs had none, the entry is at L or more all along.
+  -- 2. Deliveries: a channel that has not had its turn has its one message; one that had it has that message's clock in the entry. Where
+  -- the store μ after the installs had none, the entry is at L or more all along.
   abbrev InChannel : Call → Type 0
-  InChannel x = record { code : x .code ≡ 10; from : holds σ (x .b) (x .a) ≡ true; to : holds σ (x .c) (x .a) ≡ true; other : x .b ≡ x .c → ⊥ }
+  InChannel x = record {
+    code : x .code ≡ 10;
+    from : holds σ (x .b) (x .a) ≡ true;
+    to : holds σ (x .c) (x .a) ≡ true;
+    other : x .b ≡ x .c
+        → ⊥;
+  }
 
   abbrev Keep2 : Store → Store → Type 0
   Keep2 μ τ = record {
@@ -223,7 +239,8 @@ module _ (σ : Store) (U : Setup σ) (L : ℕ) where
   entry2 x τ T h p g l =
       by-test (same (Entry (x .c) (x .a) (x .b)) (Entry h p g)) (λ c. rw c (T .sent)) (λ c. rw c l)
 
-  leave2 : (μ : Store) (x y : Call) (τ : Store) → Keep2 μ τ → Todo2 x τ → sameCall x y ≡ false → Todo2 y τ → Todo2 y (deliver τ (x .a) (x .b) (x .c))
+  leave2 : (μ : Store) (x y : Call) (τ : Store) → Keep2 μ τ → Todo2 x τ → sameCall x y ≡ false → Todo2 y τ
+      → Todo2 y (deliver τ (x .a) (x .b) (x .c))
   leave2 μ x y τ K T n T′ =
       by-cell (Entry (x .c) (x .a) (x .b)) (Entry (y .c) (y .a) (y .b))
       (λ q c. let s : sameCall x y ≡ true =
@@ -293,7 +310,8 @@ module _ (σ : Store) (U : Setup σ) (L : ℕ) where
   server-call n h p e = rw (eqb-refl n, e)
 
   -- the five groups, one after another
-  module _ (i d r s l : List Call) (one-i : EachOnce (atServer σ 9) i) (one-d : EachOnce (withMessage σ (run σ i)) d) (one-r : EachOnce (atServer σ 11) r)
+  module _ (i d r s l : List Call) (one-i : EachOnce (atServer σ 9) i) (one-d : EachOnce (withMessage σ (run σ i)) d)
+      (one-r : EachOnce (atServer σ 11) r)
       (one-s : EachOnce (betweenHalls σ) s) (one-l : EachOnce (atServer σ 13) l) where
     round : Keep1 σ → ((p f g : ℕ) → isChannel σ p f g ≡ true → σ (Waiting g p f) ≡ 0)
         → ((p f g : ℕ) → isChannel σ p f g ≡ true → σ (Entry f p f) ≤ σ (Entry g p f))
@@ -334,7 +352,8 @@ module _ (σ : Store) (U : Setup σ) (L : ℕ) where
         })
         (λ k. absurd (false≢true (rw (k .none) at (u .1))))
         (others (y .a) (y .b) (y .c) (v .1))) in
-        let w3 = cells-phase L (λ x. Note (x .a) (x .b)) (λ τ x. lowestEntry τ (x .a) (x .b)) Keep3 (AtServer 11) take3 (λ x τ k a. k) note-high
+        let w3 = cells-phase L (λ x. Note (x .a) (x .b)) (λ τ x. lowestEntry τ (x .a) (x .b)) Keep3 (AtServer 11) take3
+        (λ x τ k a. k) note-high
         (atServer σ 11) r σ2 one-r
         (record {
           fixed = w2 .1 .fixed;
@@ -350,7 +369,8 @@ module _ (σ : Store) (U : Setup σ) (L : ℕ) where
         (betweenHalls σ) s σ3 one-s
         (record { fixed = w3 .1 .fixed; noted = λ h p e. w3 .2 (call 11 h p 0) (server-call 11 h p e) })
         between-halls in
-        let w5 = cells-phase L (λ x. Stable (x .a) (x .b)) (λ τ x. stableAfter τ (x .a) (x .b)) Keep5 (AtServer 13) take5 (λ x τ k a. k) learn-high
+        let w5 = cells-phase L (λ x. Stable (x .a) (x .b)) (λ τ x. stableAfter τ (x .a) (x .b)) Keep5 (AtServer 13) take5
+        (λ x τ k a. k) learn-high
         (atServer σ 13) l σ4 one-l
         (record { fixed = w4 .1 .fixed; told = λ h f a b. w4 .2 (call 12 f h 0) (rw (lt-ltb f (σ Halls) b, lt-ltb h (σ Halls) a)) })
         (at-server 13) in (
@@ -359,10 +379,10 @@ module _ (σ : Store) (U : Setup σ) (L : ℕ) where
               (w5 .2 (call 13 h p 0) (server-call 13 h p e)),
         )
 
--- Take a reached store with no prepared transaction and empty channels. An install at each server, a delivery in each channel that then holds a
--- message, a report of each server, a share from each hall to each, a learn at each server, in any order inside each of these five groups and
--- nothing between: none of them is turned away, and every stable time is then at least L. "In the full round, an install that sends nothing needs
--- no delivery."
+-- Take a reached store with no prepared transaction and empty channels. An install at each server, a delivery in each channel that then
+-- holds a message, a report of each server, a share from each hall to each, a learn at each server, in any order inside each of these five
+-- groups and nothing between: none of them is turned away, and every stable time is then at least L. "In the full round, an install that
+-- sends nothing needs no delivery."
 pub full-round : {σ : Store} → Reached σ
     → ((t p : ℕ) → t < placesMax → p < partitionsMax → σ (State t p) ≡ prepared → ⊥)
     → ((p f g : ℕ) → isChannel σ p f g ≡ true → σ (Waiting g p f) ≡ 0)

@@ -79,13 +79,16 @@ module _ (ok : Call → Bool) (n : ℕ) (x : Call) where
   abbrev due : ℕ
   due = cond (eqb n (x .code)) (cond (ok x) 1 0) 0
 
-  times-c : (a b : ℕ) → times x (upTo 4 (λ c. one ok (call n a b c))) ≡ cond (eqb b (x .b)) (cond (ltb (x .c) 4) (cond (eqb a (x .a)) due 0) 0) 0
+  times-c : (a b : ℕ)
+      → times x (upTo 4 (λ c. one ok (call n a b c))) ≡ cond (eqb b (x .b)) (cond (ltb (x .c) 4) (cond (eqb a (x .a)) due 0) 0) 0
   times-c a b =
       up-times x (λ c. one ok (call n a b c)) (x .c) (cond (eqb b (x .b)) (cond (eqb a (x .a)) due 0) 0)
       (λ c. once ok x (call n a b c) ∙ apart (eqb n (x .code)) (eqb a (x .a)) (eqb b (x .b)) (eqb c (x .c)) (cond (ok x) 1 0)) 4
       ∙ swap (ltb (x .c) 4) (eqb b (x .b)) _
 
-  times-b : (a : ℕ) → times x (upTo 4 (λ b. upTo 4 (λ c. one ok (call n a b c)))) ≡ cond (eqb a (x .a)) (cond (ltb (x .b) 4) (cond (ltb (x .c) 4) due 0) 0) 0
+  times-b : (a : ℕ)
+      → times x (upTo 4 (λ b. upTo 4 (λ c. one ok (call n a b c)))) ≡ cond (eqb a (x .a))
+      (cond (ltb (x .b) 4) (cond (ltb (x .c) 4) due 0) 0) 0
   times-b a =
       up-times x (λ b. upTo 4 (λ c. one ok (call n a b c))) (x .b) (cond (ltb (x .c) 4) (cond (eqb a (x .a)) due 0) 0) (times-c a) 4
       ∙ (rw (swap (ltb (x .c) 4) (eqb a (x .a)) due) (swap (ltb (x .b) 4) (eqb a (x .a)) _))
@@ -103,7 +106,8 @@ box-each ok n f x =
     (λ o. let w = f x o in
     box-times ok n x ∙ rw (o, lt-ltb (x .a) 4 (w .1), lt-ltb (x .b) 4 (w .2), lt-ltb (x .c) 4 (w .3), eq-eqb n (x .code) (w .0)))
     (λ o. box-times ok n x
-    ∙ (rw (o, nothing-either-way (eqb n (x .code)), nothing-either-way (ltb (x .c) 4), nothing-either-way (ltb (x .b) 4)) (nothing-either-way (ltb (x .a) 4))))
+    ∙ (rw (o, nothing-either-way (eqb n (x .code)), nothing-either-way (ltb (x .c) 4), nothing-either-way (ltb (x .b) 4))
+    (nothing-either-way (ltb (x .a) 4))))
 
 module _ {σ : Store} (r : Reached σ) where
   at-servers : (n : ℕ) → Boxed (atServer σ n) n
@@ -119,8 +123,13 @@ module _ {σ : Store} (r : Reached σ) where
       let w = and-true (eqb (x .code) 10) _ e in
       let v = and-true (holds σ (x .b) (x .a)) _ (w .1) in
       let u = and-true (holds σ (x .c) (x .a)) _ (v .1) in
-      let U = reached-inv r .setup in
-      (sym (eqb-true _ _ (w .0)), server-small σ U (x .b) (x .a) (v .0) .1, server-small σ U (x .b) (x .a) (v .0) .0, server-small σ U (x .c) (x .a) (u .0) .0)
+      let U = reached-inv r .setup in (
+        sym (eqb-true _ _ (w .0)),
+        server-small σ U (x .b) (x .a) (v .0) .1,
+        server-small σ U (x .b) (x .a) (v .0) .0,
+        server-small σ U
+            (x .c) (x .a) (u .0) .0,
+      )
 
   between : Boxed (betweenHalls σ) 12
   between x e =

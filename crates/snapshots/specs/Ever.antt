@@ -31,7 +31,15 @@ use Rattle.snapshots.specs.TransactionKept.{decided-there, transaction-k
 -- the transaction at place t as the store has it now
 abbrev pub entryNow : Store → ℕ → Decided
 entryNow σ t =
-    record { number = numberOf t; by = σ (By t); hall = σ (From t); time = σ (CommitTime t); keys = σ (KeySet t); value = λ k. σ (Value t k) }
+    record {
+      number = numberOf t;
+      by = σ (By t);
+      hall = σ (From t);
+      time = σ (CommitTime t);
+      keys = σ (KeySet t);
+      value = λ k. σ
+          (Value t k);
+    }
 
 unfoldable pub entries : Store → List ℕ → List Decided
 entries σ [] = []
@@ -69,7 +77,8 @@ module _ {σ : Store} (R : Reached σ) where
       let K = transaction-kept (Later.more Later.none code a b c) t (decided-there σ (reached-inv R) t l) in
       λ i. record { number = numberOf t; by = K .by i; hall = K .from i; time = K .time l i; keys = K .keys i; value = λ k. K .values k i }
 
-  entries-kept : (code a b c : ℕ) (ts : List ℕ) → ((t : ℕ) → List·Memᴰ t ts → decided σ t ≡ true) → entries (after σ code a b c) ts ≡ entries σ ts
+  entries-kept : (code a b c : ℕ) (ts : List ℕ) → ((t : ℕ) → List·Memᴰ t ts → decided σ t ≡ true)
+      → entries (after σ code a b c) ts ≡ entries σ ts
   unfolding entries
   entries-kept code a b c [] f = refl
   entries-kept code a b c (t ∷ ts) f =
@@ -85,14 +94,16 @@ module _ {σ : Store} (R : Reached σ) where
   )
 
   -- a transaction writes a partition, so a decide gives it a commit time
-  pub decision-some : (t : ℕ) → t < σ Transactions → ((p : ℕ) → p < partitionsMax → (σ (State t p) ≡ 0) ⊎ (σ (State t p) ≡ prepared)) → 0 < decision σ t
+  pub decision-some : (t : ℕ) → t < σ Transactions → ((p : ℕ) → p < partitionsMax → (σ (State t p) ≡ 0) ⊎ (σ (State t p) ≡ prepared))
+      → 0 < decision σ t
   decision-some t there states =
       let F = formed σ (reached-well-formed R) in
       let x = reached-own R .some t there in
       let l = x .2 in
       let e : σ (State t (x .0)) ≡ prepared = ⊎-elim (λ z. absurd (omega arith)) (λ z. z) (states (x .0) (x .1)) in
       let y = F .prepared t (x .0) (le-trans there (F .places)) (x .1) e in
-      le-trans y (largest-ge partitionsMax (λ p. eqb (σ (State t p)) prepared) (λ p. σ (Proposed t p)) (x .0) (x .1) (eq-eqb (σ (State t (x .0))) prepared e))
+      le-trans y (largest-ge partitionsMax (λ p. eqb (σ (State t p)) prepared) (λ p. σ (Proposed t p)) (x .0) (x .1)
+      (eq-eqb (σ (State t (x .0))) prepared e))
 
   decided-now : (a b c : ℕ) → refusal σ 7 a b c ≡ 0 → after σ 7 a b c ≡ decide σ (placeOf a)
   unfolding refusal after ruleOf
@@ -116,7 +127,15 @@ module _ {σ : Store} (R : Reached σ) where
       let places = formed σ (reached-well-formed R) .places in
       let time : decide σ n (CommitTime n) ≡ decision σ n = rw (at-same (CommitTime n)) in
       let entry : entryOf σ n ≡ entryNow τ n = rw q
-      (λ i. record { number = numberOf n; by = σ (By n); hall = σ (From n); time = sym time i; keys = σ (KeySet n); value = λ k. σ (Value n k) }) in (
+      (λ i. record {
+        number = numberOf n;
+        by = σ (By n);
+        hall = σ (From n);
+        time = sym time i;
+        keys = σ (KeySet n);
+        value = λ k. σ
+            (Value n k);
+      }) in (
         n ∷ ts,
         λ i. entry i ∷ (e ∙ sym (entries-kept 7 a b c ts (λ t j. m t .0 j .1))) i,
         λ t. (

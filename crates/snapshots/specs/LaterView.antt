@@ -39,7 +39,8 @@ decide-past σ I S t k kb all w le =
     let some = I .writes .written t k kb w in
     let s2 : σ (State t p) ≡ prepared = ⊎-elim (λ z. absurd (omega arith)) (λ z. z) (all p p4) in
     let a = I .clocks .above t p s2 in
-    let c = largest-ge partitionsMax (λ p. eqb (σ (State t p)) prepared) (λ p. σ (Proposed t p)) p p4 (eq-eqb (σ (State t p)) prepared s2) in
+    let c = largest-ge partitionsMax (λ p. eqb (σ (State t p)) prepared) (λ p. σ (Proposed t p)) p p4
+    (eq-eqb (σ (State t p)) prepared s2) in
     omega arith
 
 module _ (σ : Store) (I : Inv σ) (S : ℕ) (B : Below σ S) where
@@ -81,10 +82,12 @@ module _ (σ : Store) (I : Inv σ) (S : ℕ) (B : Below σ S) where
       let u = I .states .undecided (σ Transactions) (le-refl _) in
       mergeAll-agree placesMax _ _ _ _
       (λ t tb. by-eq (σ Transactions) t (λ q c. let z : σ (CommitTime t) ≡ 0 = rw (← q) u in rw z) (λ q c. rw c))
-      (λ t tb e. by-eq (σ Transactions) t (λ q c. let z : σ (CommitTime t) ≡ 0 = rw (← q) u in absurd (false≢true (rw z at e))) (λ q c. rw c))
+      (λ t tb e. by-eq (σ Transactions) t (λ q c. let z : σ (CommitTime t) ≡ 0 = rw (← q) u in absurd (false≢true (rw z at e)))
+      (λ q c. rw c))
 
   -- the view at S of all that is decided is the same after a step
-  step-view : (k : ℕ) → k < keys → {τ : Store} → Writing σ (From 0 ∷ CommitTime 0 ∷ KeySet 0 ∷ Value 0 0 ∷ []) τ → decidedView τ k S ≡ decidedView σ k S
+  step-view : (k : ℕ) → k < keys → {τ : Store} → Writing σ (From 0 ∷ CommitTime 0 ∷ KeySet 0 ∷ Value 0 0 ∷ []) τ
+      → decidedView τ k S ≡ decidedView σ k S
   step-view k kb (Step.asks s f q) = ask-view s k
   step-view k kb (Step.decides n f) = decide-view (placeOf n) k kb (f .undecided) (f .states)
 
@@ -104,7 +107,8 @@ later-never-alters {σ} r w s k kb =
     let S = σ (Snapshot s) in
     ever-decided (reached-later r w) k S ∙ (later-decided r w s k kb ∙ sym (ever-decided r k S))
 
--- However much later, as long as the session has that snapshot still, a read at any hall that holds the key answers what it would have answered.
+-- However much later, as long as the session has that snapshot still, a read at any hall that holds the key answers what it would have
+-- answered.
 pub later-read : {σ τ : Store} (r : Reached σ) → Later σ τ → (s k h : ℕ) → Fetches τ s k h → τ (Snapshot s) ≡ σ (Snapshot s)
     → (refusal τ 3 s k h ≡ 0) × (answer τ 3 s k h ≡ Read (everView (decidedEver r) k (σ (Snapshot s))))
 later-read r w s k h f e =

@@ -111,10 +111,12 @@ module _ (σ : Store) (I : Inv σ) (G : Gossip σ) (R : Reads σ) where
 
 reached-reads : {σ : Store} → Reached σ → Reads σ
 reached-reads =
-    by-reached Reads (λ masks homes z s k kb st w i. absurd (omega arith)) (λ σ r R τ x. over Reads x (step-reads σ (reached-inv r) (reached-gossip r) R) R)
+    by-reached Reads (λ masks homes z s k kb st w i. absurd (omega arith)) (λ σ r R τ x. over Reads x
+    (step-reads σ (reached-inv r) (reached-gossip r) R) R)
 
 -- Every read of a running session of a reached store is taken where the hall holds the key, and answers the session's own write of this
--- transaction, else its cached write, else the merge of all that is decided at or below its snapshot. Neither the hall nor the read set matters.
+-- transaction, else its cached write, else the merge of all that is decided at or below its snapshot. Neither the hall nor the read set
+-- matters.
 pub read-answer : {σ : Store} → Reached σ → (s k h : ℕ) → ltb s (σ Sessions) ≡ true → σ (Status s) ≡ running → k < keys
     → holds σ h (partitionOf σ k) ≡ true → (refusal σ 3 s k h ≡ 0) × (numbers (answer σ 3 s k h) ≡ numbers (due σ s k))
 unfolding refusal answer ruleOf

@@ -90,14 +90,15 @@ Fetches σ s k h = record {
   uncached : σ (CacheTime s k) ≡ 0;
 }
 
--- Such a read of a reached store is taken, at any hall that holds the key, and answers the merge of all that was decided so far with a commit time at
--- or below the session's snapshot.
+-- Such a read of a reached store is taken, at any hall that holds the key, and answers the merge of all that was decided so far with a
+-- commit time at or below the session's snapshot.
 pub snapshot-read : {σ : Store} (r : Reached σ) (s k h : ℕ) → Fetches σ s k h
     → (refusal σ 3 s k h ≡ 0) × (answer σ 3 s k h ≡ Read (everView (decidedEver r) k (σ (Snapshot s))))
 unfolding refusal answer ruleOf
 snapshot-read {σ} r s k h f =
     let I = reached-inv r in
-    let x = held-decided σ I (σ (Snapshot s)) (reached-gossip r .snapshot s) k h (f .key) (f .holder) ∙ sym (ever-decided r k (σ (Snapshot s))) in
+    let x = held-decided σ I (σ (Snapshot s)) (reached-gossip r .snapshot s) k h (f .key) (f .holder) ∙ sym
+    (ever-decided r k (σ (Snapshot s))) in
     let l = lt-ltb k keys (f .key) in (
       rw (f .there, l, f .holder, f .runs),
       rw (f .there, l, f .holder, f .runs, f .unwritten, f .unread, f .uncached, x),
