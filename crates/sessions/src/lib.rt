@@ -13,10 +13,16 @@ ghost use Rattle.book.specs.SessionSteps.{start as startStore, startAnswer, rea
 ghost use Rattle.room.specs.Layout.{size, Within, store};
 ghost use Rattle.views.specs.Partitions.{Parted};
 ghost use Rattle.sessions.specs.Starting.{Homed, begun, cleanedAt, cleaned};
-ghost use Rattle.sessions.specs.Reading.{kept};
+ghost use Rattle.sessions.specs.Reading.{kept, Looked};
 ghost use Rattle.sessions.specs.Asking.{requested, copiedAt, copied, askedAt, askedAll};
 use book::Answer;
+use book::COMMITTING;
+use book::IDLE;
+use book::KEYS_MAX;
+use book::PARTITIONS_MAX;
+use book::RUNNING;
 use book::Reading;
+use book::STATE_ASKED;
 use book::Timestamp;
 use book::View;
 use room::BY;
@@ -66,7 +72,7 @@ fn begin(room: &mut [u64], s: usize, h: usize, p: usize, snapshot: Timestamp)
     room::put(room, SNAPSHOT, s, 0, 0, 0, snapshot.0);
     room::put(room, WRITE_SET, s, 0, 0, 0, 0);
     room::put(room, READ_SET, s, 0, 0, 0, 0);
-    room::put(room, STATUS, s, 0, 0, 0, 1);
+    room::put(room, STATUS, s, 0, 0, 0, RUNNING);
 }
 
 // One key of the cache.
@@ -83,7 +89,7 @@ fn clean_cache(room: &mut [u64], s: usize, snapshot: Timestamp)
     requires { ⌜ (length (now room) ≡ size) × (s < sessionsMax) ⌝ }
     ensures { λ r. ⌜ (length (now (room .exit)) ≡ size) × (store (now (room .exit)) ≡ cleaned (store (now (room .entry))) s (snapshot .0)) ⌝ }
 {
-    for k in 0..32 {
+    for k in 0..KEYS_MAX {
         clean(room, s, k, snapshot);
     }
 }
@@ -135,21 +141,36 @@ fn told(room: &mut [u64], s: usize, k: usize, view: View) -> Answer
     Answer::Read(view)
 }
 
-// 3. Read. "Looks in write set, read set, cache, then at that hall's server, at S."
+// What a session itself has of a key.
+pub enum Found {
+    Value(u64),
+    Nothing,
+}
+
+// "Looks in write set, read set, cache"
+fn look(room: &[u64], s: usize, k: usize) -> Found
+    requires { ⌜ (length (now room) ≡ size) × (s < sessionsMax) × (k < keys) ⌝ }
+    ensures { λ r. ⌜ Looked (store (now (room .entry))) s k r ⌝ }
+{
+    if masks::has(room::get(room, WRITE_SET, s, 0, 0, 0), k as u64) {
+        return Found::Value(room::get(room, WRITE_VALUE, s, k, 0, 0));
+    }
+    if masks::has(room::get(room, READ_SET, s, 0, 0, 0), k as u64) {
+        return Found::Value(room::get(room, READ_VALUE, s, k, 0, 0));
+    }
+    if room::get(room, CACHE_TIME, s, k, 0, 0) > 0 {
+        return Found::Value(room::get(room, CACHE_VALUE, s, k, 0, 0));
+    }
+    Found::Nothing
+}
+
+// 3. Read. "then at that hall's server, at S."
 pub fn read(room: &mut [u64], s: usize, k: usize, h: usize) -> Answer
     requires { ⌜ (length (now room) ≡ size) × (s < sessionsMax) × (k < keys) × (h < hallsMax) × Parted (store (now room)) ⌝ }
     ensures { λ r. ⌜ (length (now (room .exit)) ≡ size) × (r ≡ readAnswer (store (now (room .entry))) s k h) × (store (now (room .exit)) ≡ readStore (store (now (room .entry))) s k h) ⌝ }
 {
-    if masks::has(room::get(room, WRITE_SET, s, 0, 0, 0), k as u64) {
-        let v = room::get(room, WRITE_VALUE, s, k, 0, 0);
-        return own(room, s, k, v);
-    }
-    if masks::has(room::get(room, READ_SET, s, 0, 0, 0), k as u64) {
-        let v = room::get(room, READ_VALUE, s, k, 0, 0);
-        return own(room, s, k, v);
-    }
-    if room::get(room, CACHE_TIME, s, k, 0, 0) > 0 {
-        let v = room::get(room, CACHE_VALUE, s, k, 0, 0);
+    let found = look(room, s, k);
+    if let Found::Value(v) = found {
         return own(room, s, k, v);
     }
     let snapshot = Timestamp(room::get(room, SNAPSHOT, s, 0, 0, 0));
@@ -183,7 +204,7 @@ fn touches(room: &[u64], m: u64, p: usize) -> bool
     requires { ⌜ (length (now room) ≡ size) × Parted (store (now room)) ⌝ }
     ensures { λ r. ⌜ r ≡ touched (store (now (room .entry))) m p ⌝ }
 {
-    for k in 0..32 {
+    for k in 0..KEYS_MAX {
         if of_partition(room, m, p, k) {
             return true;
         }
@@ -200,7 +221,7 @@ fn request(room: &mut [u64], s: usize, t: usize, m: u64)
     room::put(room, BY, t, 0, 0, 0, s as u64);
     room::put(room, FROM, t, 0, 0, 0, from);
     room::put(room, KEY_SET, t, 0, 0, 0, m);
-    room::put(room, STATUS, s, 0, 0, 0, 2);
+    room::put(room, STATUS, s, 0, 0, 0, COMMITTING);
     room::put(room, TRANSACTIONS, 0, 0, 0, 0, t as u64 + 1);
 }
 
@@ -217,7 +238,7 @@ fn copy_values(room: &mut [u64], s: usize, t: usize)
     requires { ⌜ (length (now room) ≡ size) × (s < sessionsMax) × (t < placesMax) ⌝ }
     ensures { λ r. ⌜ (length (now (room .exit)) ≡ size) × (store (now (room .exit)) ≡ copied (store (now (room .entry))) s t) ⌝ }
 {
-    for k in 0..32 {
+    for k in 0..KEYS_MAX {
         copy_value(room, s, t, k);
     }
 }
@@ -228,7 +249,7 @@ fn ask_state(room: &mut [u64], t: usize, m: u64, p: usize, n: u64) -> u64
     ensures { λ r. ⌜ (length (now (room .exit)) ≡ size) × (r ≡ cond (touched (store (now (room .entry))) m p) (n + 1) n) × (r ≤ p + 1) × (store (now (room .exit)) ≡ askedAt p (store (now (room .entry))) t m) ⌝ }
 {
     let written = touches(room, m, p);
-    room::put_if(room, written, STATE, t, p, 0, 0, 1);
+    room::put_if(room, written, STATE, t, p, 0, 0, STATE_ASKED);
     if written { n + 1 } else { n }
 }
 
@@ -238,7 +259,7 @@ fn ask_states(room: &mut [u64], t: usize, m: u64) -> u64
     ensures { λ r. ⌜ (length (now (room .exit)) ≡ size) × (r ≡ count partitionsMax (touched (store (now (room .entry))) m)) × (store (now (room .exit)) ≡ askedAll (store (now (room .entry))) t m) ⌝ }
 {
     let mut n = 0;
-    for p in 0..4 {
+    for p in 0..PARTITIONS_MAX {
         n = ask_state(room, t, m, p, n);
     }
     n
@@ -251,7 +272,7 @@ pub fn end(room: &mut [u64], s: usize) -> Answer
 {
     let m = room::get(room, WRITE_SET, s, 0, 0, 0);
     if m == 0 {
-        room::put(room, STATUS, s, 0, 0, 0, 0);
+        room::put(room, STATUS, s, 0, 0, 0, IDLE);
         return Answer::Answered(0, 0);
     }
     let t = room::get(room, TRANSACTIONS, 0, 0, 0, 0) as usize;
