@@ -1,11 +1,11 @@
 // Steps 2 to 5 and 14, for numbers that are not turned away.
 ghost use mathlib.Core.Path.{_≡_};
-ghost use mathlib.Core.Bool.{false, cond, _&&_};
+ghost use mathlib.Core.Bool.{true, false, cond, _&&_};
 ghost use Prim.Native.Nat.{_+_, _-_, _≤_, _<_};
 ghost use lib.ListN.{length};
 ghost use lib.Dec.{eqb, leb};
 ghost use Rattle.book.specs.Sizes.{hallsMax, partitionsMax, sessionsMax, keys, placesMax};
-ghost use Rattle.book.specs.Cells.{cell, _⟨_≔_⟩, Transactions};
+ghost use Rattle.book.specs.Cells.{cell, _⟨_≔_⟩, Transactions, WriteSet};
 ghost use Rattle.book.specs.Folds.{count};
 ghost use Rattle.book.specs.Sets.{member, include};
 ghost use Rattle.book.specs.Servers.{present as presentAt, partitionOf};
@@ -265,7 +265,19 @@ fn ask_states(room: &mut [u64], t: usize, m: u64) -> u64
     n
 }
 
-// 5. End. "With writes", "Without: the session is idle, nothing else changes."
+// "With writes": the keys m are asked for, at the next place.
+fn ask(room: &mut [u64], s: usize, m: u64) -> Answer
+    requires { ⌜ (length (now room) ≡ size) × (s < sessionsMax) × Parted (store (now room)) × (store (now room) Transactions < placesMax) × (m ≡ store (now room) (WriteSet s)) × (hasWrites (store (now room)) s ≡ true) ⌝ }
+    ensures { λ r. ⌜ (length (now (room .exit)) ≡ size) × (r ≡ endAnswer (store (now (room .entry))) s) × (store (now (room .exit)) ≡ endStore (store (now (room .entry))) s) ⌝ }
+{
+    let t = room::get(room, TRANSACTIONS, 0, 0, 0, 0) as usize;
+    request(room, s, t, m);
+    copy_values(room, s, t);
+    let n = ask_states(room, t, m);
+    Answer::Answered(views::number_of(t).0, n)
+}
+
+// 5. End. "Without: the session is idle, nothing else changes."
 pub fn end(room: &mut [u64], s: usize) -> Answer
     requires { ⌜ (length (now room) ≡ size) × (s < sessionsMax) × Parted (store (now room)) × ((hasWrites (store (now room)) s && leb placesMax (store (now room) Transactions)) ≡ false) ⌝ }
     ensures { λ r. ⌜ (length (now (room .exit)) ≡ size) × (r ≡ endAnswer (store (now (room .entry))) s) × (store (now (room .exit)) ≡ endStore (store (now (room .entry))) s) ⌝ }
@@ -275,11 +287,7 @@ pub fn end(room: &mut [u64], s: usize) -> Answer
         room::put(room, STATUS, s, 0, 0, 0, IDLE);
         return Answer::Answered(0, 0);
     }
-    let t = room::get(room, TRANSACTIONS, 0, 0, 0, 0) as usize;
-    request(room, s, t, m);
-    copy_values(room, s, t);
-    let n = ask_states(room, t, m);
-    Answer::Answered(views::number_of(t).0, n)
+    ask(room, s, m)
 }
 
 // 14. Move. "Its stable time, last commit time and cache go along."

@@ -11,6 +11,8 @@ ask-state-spec =
     (λ c κs. search needs)
     (λ c. search needs)
     (λ c. search needs)
-    (λ c. (search needs, rw (sym (c .before .before .before .before .before .touches .ensures) ∙ c .if1 .taken), search needs, rw (← (c .before .before .before .before .before .touches .ensures)) (c .before .before .before .put-if .ensures .1)))
+    (λ c. let t = c .before .before .before .before .before .touches .ensures in
+    (search needs, rw (sym t ∙ c .if1 .taken), search needs, rw (← t) (c .before .before .before .put-if .ensures .1)))
     (λ c. search needs)
-    (λ c. (search needs, rw (sym (c .before .before .before .before .before .touches .ensures) ∙ c .if1 .left), search needs, rw (← (c .before .before .before .before .before .touches .ensures)) (c .before .before .before .put-if .ensures .1))))
+    (λ c. let t = c .before .before .before .before .before .touches .ensures in
+    (search needs, rw (sym t ∙ c .if1 .left), search needs, rw (← t) (c .before .before .before .put-if .ensures .1))))

@@ -34,11 +34,13 @@ ask-states-spec =
     Inv-loop
     μ-loop
     loop-holds
-    (λ c κs. (search needs, rw (c .before .before .loop .inv .4) (c .before .before .before .before .pre .1), search needs, search needs, search needs))
+    (λ c κs. let p = c .before .before .before .before .pre in
+    (search needs, rw (c .before .before .loop .inv .4) (p .1), search needs, search needs, search needs))
     (λ c. search needs)
     (λ c. search needs)
-    (λ c. let a = c .before .before .before .before .before .before .before .args in
-    let i = c .before .before .before .before .before .loop in
+    (λ c. let l = c .before .before .before .before .before in
+    let a = l .before .before .args in
+    let i = l .loop in
     let e = c .before .before .ask-state .ensures in (
       search needs,
       search needs,
@@ -47,7 +49,8 @@ ask-states-spec =
       asked-next (i .p) (store (a .room .now)) (a .t) (a .m) (e .3) (i .inv .4),
     ))
     (λ c. search needs)
-    (λ c. let a = c .before .before .before .args in
+    (λ c. let s = c .before .before .before in
     let i = c .before .loop in
     let e : i .p ≡ partitionsMax = omega arith in
-    (search needs, rw e at (i .inv .3), rw e at (i .inv .4) ∙ asked-done (store (a .room .now)) (a .t) (a .m) (c .before .before .before .pre .1))))
+    let d = asked-done (store (s .args .room .now)) (s .args .t) (s .args .m) (s .pre .1) in
+    (search needs, rw e at (i .inv .3), rw e at (i .inv .4) ∙ d)))

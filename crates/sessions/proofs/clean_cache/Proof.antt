@@ -26,8 +26,9 @@ clean-cache-spec =
     (λ c κs. search needs)
     (λ c. search needs)
     (λ c. search needs)
-    (λ c. let a = c .before .before .before .before .before .before .before .args in
-    let i = c .before .before .before .before .before .loop in (
+    (λ c. let l = c .before .before .before .before .before in
+    let a = l .before .before .args in
+    let i = l .loop in (
       search needs,
       search needs,
       cleaned-next (i .k) (store (a .room .now)) (a .s) (a .snapshot .0) (c .before .before .clean .ensures .1) (i .inv .2),

@@ -26,8 +26,9 @@ copy-values-spec =
     (λ c κs. search needs)
     (λ c. search needs)
     (λ c. search needs)
-    (λ c. let a = c .before .before .before .before .before .before .before .args in
-    let i = c .before .before .before .before .before .loop in (
+    (λ c. let l = c .before .before .before .before .before in
+    let a = l .before .before .args in
+    let i = l .loop in (
       search needs,
       search needs,
       copied-next (i .k) (store (a .room .now)) (a .s) (a .t) (omega arith) (c .before .before .copy-value .ensures .1) (i .inv .2),

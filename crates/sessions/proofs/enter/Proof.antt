@@ -11,4 +11,6 @@ enter-spec =
     (λ c κs. search needs)
     (λ c κs. search needs)
     (λ c. search needs)
-    (λ c. (search needs, rw (c .before .before .put2 .ensures .1, c .before .before .before .before .before .before .put .ensures .1, c .before .before .before .before .before .before .before .with .ensures, c .before .before .before .before .before .before .before .before .before .get .ensures))))
+    (λ c. let p = c .before .before .before .before .before .before in
+    let w = p .before in
+    (search needs, rw (c .before .before .put2 .ensures .1, p .put .ensures .1, w .with .ensures, w .before .before .get .ensures))))

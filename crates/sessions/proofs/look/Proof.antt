@@ -11,7 +11,8 @@ look-spec =
     (λ c κs. search needs)
     (λ c κs. search needs)
     (λ c κs. search needs)
-    (λ c h. rw (← (c .before .before .before .get .ensures), sym (c .before .before .has .ensures) ∙ c .before .if1 .taken, ← (c .get2 .ensures)))
+    (λ c h. let w = c .before in
+    rw (← (w .before .before .get .ensures), sym (w .before .has .ensures) ∙ w .if1 .taken, ← (c .get2 .ensures)))
     (λ c κs. search needs)
     (λ c κs. search needs)
     (λ c κs. search needs)

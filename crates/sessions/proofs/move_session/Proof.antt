@@ -10,4 +10,5 @@ move-session-spec =
     (λ c κs. search needs)
     (λ c κs. search needs)
     (λ c. search needs)
-    (λ c. (search needs, refl, rw (c .before .before .put2 .ensures .1, c .before .before .before .before .before .before .put .ensures .1))))
+    (λ c. let p = c .before .before in
+    (search needs, refl, rw (p .put2 .ensures .1, p .before .before .before .before .put .ensures .1))))

@@ -29,5 +29,6 @@ read-spec =
     let l = f .before .before in
     let a = l .before .before .before .args in
     let e = c .before .before .told .ensures in
+    let r = (rw (f .enum-told .given .1) at (l .look .ensures)) (a .h) in
     answered (store (a .room .now)) (a .s) (a .k) (a .h) (e .0) (e .2)
-    (rw ((rw (f .enum-told .given .1) at (l .look .ensures)) (a .h), ← (v .before .before .get .ensures), ← (v .held-view .ensures)) (e .1))))
+    (rw (r, ← (v .before .before .get .ensures), ← (v .held-view .ensures)) (e .1))))

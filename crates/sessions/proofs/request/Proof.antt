@@ -15,4 +15,19 @@ request-spec =
     (λ c. search needs)
     (λ c κs. search needs)
     (λ c. search needs)
-    (λ c. (search needs, rw (c .before .before .put5 .ensures .1, c .before .before .before .before .before .before .put4 .ensures .1, c .before .before .before .before .before .before .before .before .before .before .put3 .ensures .1, c .before .before .before .before .before .before .before .before .before .before .before .before .before .before .put2 .ensures .1, c .before .before .before .before .before .before .before .before .before .before .before .before .before .before .before .before .before .before .put .ensures .1, c .before .before .before .before .before .before .before .before .before .before .before .before .before .before .before .before .before .before .before .before .get .ensures, add-one))))
+    (λ c. let e = c .before .before in
+    let d = e .before .before .before .before in
+    let b = d .before .before .before .before in
+    let a = b .before .before .before .before in
+    let z = a .before .before .before .before in (
+      search needs,
+      rw (
+        e .put5 .ensures .1,
+        d .put4 .ensures .1,
+        b .put3 .ensures .1,
+        a .put2 .ensures .1,
+        z .put .ensures .1,
+        z .before .before .get .ensures,
+        add-one,
+      ),
+    )))

@@ -16,8 +16,29 @@ start-spec =
     (λ c κs. search needs)
     (λ c κs. search needs)
     (λ c. search needs)
-    (λ c. (
+    (λ c. let b = c .before .before .before .before .before .before .before in
+    let l = b .before .before in
+    let s = l .before .before .before in
+    let t = s .before .before in
+    let p = t .before .before in
+    let h = p .before .before in (
       search needs,
-      rw (c .lag .ensures, c .before .before .before .before .before .before .before .before .before .larger .ensures, c .before .before .before .before .before .before .before .before .before .before .present-at .ensures, c .before .before .before .before .before .before .before .before .before .before .before .before .get4 .ensures, c .before .before .before .before .before .before .before .before .before .before .before .before .before .before .get3 .ensures, c .before .before .before .before .before .before .before .before .before .before .before .before .before .before .before .before .get2 .ensures, c .before .before .before .before .before .before .before .before .before .before .before .before .before .before .before .before .before .before .get .ensures),
-      rw (c .before .before .before .clean-cache .ensures .1, c .before .before .before .before .before .before .before .begin .ensures .1, c .before .before .before .before .before .before .before .before .before .larger .ensures, c .before .before .before .before .before .before .before .before .before .before .before .before .get4 .ensures, c .before .before .before .before .before .before .before .before .before .before .before .before .before .before .get3 .ensures, c .before .before .before .before .before .before .before .before .before .before .before .before .before .before .before .before .get2 .ensures, c .before .before .before .before .before .before .before .before .before .before .before .before .before .before .before .before .before .before .get .ensures),
+      rw (
+        c .lag .ensures,
+        l .larger .ensures,
+        l .before .present-at .ensures,
+        s .get4 .ensures,
+        t .get3 .ensures,
+        p .get2 .ensures,
+        h .get .ensures,
+      ),
+      rw (
+        c .before .before .before .clean-cache .ensures .1,
+        b .begin .ensures .1,
+        l .larger .ensures,
+        s .get4 .ensures,
+        t .get3 .ensures,
+        p .get2 .ensures,
+        h .get .ensures,
+      ),
     )))

@@ -12,7 +12,10 @@ told-spec =
     (tie.spec
     (λ c. search needs)
     (λ c. search needs)
-    (λ c. (search needs, refl, rw (c .enum-told .given .1) (let a = c .before .before .before .args in let σ = store (a .room .now) in sym (keep (σ ⟨ ReadSet (a .s) ≔ σ (ReadSet (a .s)) ⟩) (ReadValue (a .s) (a .k)) ∙ keep σ (ReadSet (a .s))))))
+    (λ c. let a = c .before .before .before .args in
+    let σ = store (a .room .now) in
+    let k = keep (σ ⟨ ReadSet (a .s) ≔ σ (ReadSet (a .s)) ⟩) (ReadValue (a .s) (a .k)) ∙ keep σ (ReadSet (a .s)) in
+    (search needs, refl, rw (c .enum-told .given .1) (sym k)))
     (λ c κs. search needs)
     (λ c. search needs)
     (λ c. (search needs, rw (c .before .before .before .before .before .view .given .1), c .before .before .enter .ensures .1)))
