@@ -1,2 +1,3 @@
 pub mod Blocks
 pub mod Counts
+pub mod Passing
