@@ -3,7 +3,7 @@ use Prim.Native.Nat.{ℕ}
 use mathlib.Core.Bool.{Bool, cond, _&&_}
 use lib.Dec.{ltb, leb}
 use Rattle.book.specs.Sizes.{hallsMax, partitionsMax, sessionsMax, placesMax, maskMax}
-use Rattle.book.specs.Cells.{Store, Halls, Partitions, Sessions, Transactions, Mask, Entry, HomeHall, HomePartition, CacheTime, State, prepared, installed, ClockSent}
+use Rattle.book.specs.Cells.{Store, Halls, Partitions, Sessions, Transactions, Mask, Entry, HomeHall, HomePartition, CacheTime, State, prepared, ClockSent}
 use Rattle.book.specs.Cases.{implies}
 use Rattle.book.specs.Folds.{all, count}
 use Rattle.book.specs.Sets.{member}
@@ -40,11 +40,9 @@ hallOk σ b h = all partitionsMax (λ p. serverOk σ b h p)
 abbrev pub cachedOk : Store → ℕ → ℕ → ℕ → Bool
 cachedOk σ b s k = leb (σ (CacheTime s k)) b
 
-abbrev pub highestState : Store → ℕ → ℕ
-highestState σ t = cond (ltb t (σ Transactions)) installed 0
-
-abbrev pub latestCommit : Store → ℕ → ℕ → ℕ
-latestCommit σ b t = cond (ltb t (σ Transactions)) b 0
+-- at most m at a place that a transaction has, and nothing at another
+abbrev pub mostAt : Store → ℕ → ℕ → ℕ
+mostAt σ t m = cond (ltb t (σ Transactions)) m 0
 
 abbrev pub sharesOk : Store → ℕ → ℕ → Bool
 sharesOk σ b to = all hallsMax (λ f. sharedOk σ b to f)

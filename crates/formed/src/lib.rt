@@ -6,13 +6,24 @@ ghost use lib.Dec.{eqb, leb};
 ghost use lib.ListN.{length};
 ghost use Rattle.book.specs.Sizes.{hallsMax, partitionsMax, sessionsMax, keys, placesMax, slots};
 ghost use Rattle.book.specs.Cells.{cell};
+ghost use Rattle.book.specs.Cases.{implies};
 ghost use Rattle.book.specs.Folds.{all};
 ghost use Rattle.book.specs.Setup.{heldSomewhere, partitionsHeld, goodHalls, goodSessions, goodSetup};
-ghost use Rattle.book.specs.WellFormed.{pairsPrepared, timeBound, channelOk, serverOk, sessionOk, pairOk, transactionOk, wellFormed};
+ghost use Rattle.book.specs.WellFormed.{pairsPrepared, timeBound, serverOk, sessionOk, pairOk, transactionOk, wellFormed};
 ghost use Rattle.room.specs.Layout.{size, Within, store};
-ghost use Rattle.formed.specs.Blocks.{hasBit, maskOk, partitionOk, homeOk, preparedAt, clockOk, entryOk, hallOk, cachedOk, highestState, latestCommit, sharesOk, keptOk};
+ghost use Rattle.formed.specs.Blocks.{hasBit, maskOk, partitionOk, homeOk, preparedAt, clockOk, entryOk, hallOk, cachedOk, mostAt, sharesOk, keptOk};
+use book::COMMITTING;
+use book::HALLS_MAX;
+use book::KEYS_MAX;
+use book::MASK_MAX;
+use book::PARTITIONS_MAX;
+use book::PLACES_MAX;
 use book::READING_MAX;
 use book::Reading;
+use book::SESSIONS_MAX;
+use book::SLOTS_MAX;
+use book::STATE_INSTALLED;
+use book::STATE_PREPARED;
 use book::Timestamp;
 use room::BY;
 use room::CACHE_TIME;
@@ -48,6 +59,19 @@ use times::timestamp_of;
 // A set of the 32 keys is below it.
 const KEY_SETS: u64 = 4294967296;
 
+fn both(a: bool, b: bool) -> bool
+    ensures { λ r. ⌜ r ≡ (a && b) ⌝ }
+{
+    if a { b } else { false }
+}
+
+// Where a holds, b does.
+fn implied(a: bool, b: bool) -> bool
+    ensures { λ r. ⌜ r ≡ implies a b ⌝ }
+{
+    if a { b } else { true }
+}
+
 // Whether hall h is there, with p's bit in its mask.
 fn hall_has(room: &[u64], p: usize, h: usize) -> bool
     requires { ⌜ (length (now room) ≡ size) × (h < hallsMax) ⌝ }
@@ -55,14 +79,14 @@ fn hall_has(room: &[u64], p: usize, h: usize) -> bool
 {
     let halls = room::get(room, HALLS, 0, 0, 0, 0);
     let mask = room::get(room, MASK, h, 0, 0, 0);
-    (h as u64) < halls && masks::has(mask, p as u64)
+    both((h as u64) < halls, masks::has(mask, p as u64))
 }
 
 fn held_somewhere(room: &[u64], p: usize) -> bool
     requires { ⌜ length (now room) ≡ size ⌝ }
     ensures { λ r. ⌜ r ≡ heldSomewhere (store (now (room .entry))) p ⌝ }
 {
-    for h in 0..4 {
+    for h in 0..HALLS_MAX {
         if hall_has(room, p, h) {
             return true;
         }
@@ -88,7 +112,7 @@ pub fn partitions_held(room: &[u64]) -> u64
     ensures { λ r. ⌜ r ≡ partitionsHeld (store (now (room .entry))) ⌝ }
 {
     let mut n = 0;
-    for p in 0..4 {
+    for p in 0..PARTITIONS_MAX {
         n = raised(room, p, n);
     }
     n
@@ -101,17 +125,14 @@ fn mask_ok(room: &[u64], h: usize) -> bool
 {
     let halls = room::get(room, HALLS, 0, 0, 0, 0);
     let mask = room::get(room, MASK, h, 0, 0, 0);
-    if halls <= h as u64 {
-        return true;
-    }
-    1 <= mask && mask <= 15
+    implied((h as u64) < halls, both(1 <= mask, mask <= MASK_MAX))
 }
 
 fn masks_ok(room: &[u64]) -> bool
     requires { ⌜ length (now room) ≡ size ⌝ }
     ensures { λ r. ⌜ r ≡ all hallsMax (maskOk (store (now (room .entry)))) ⌝ }
 {
-    for h in 0..4 {
+    for h in 0..HALLS_MAX {
         if !mask_ok(room, h) {
             return false;
         }
@@ -134,7 +155,7 @@ fn partitions_ok(room: &[u64]) -> bool
     requires { ⌜ length (now room) ≡ size ⌝ }
     ensures { λ r. ⌜ r ≡ all partitionsMax (partitionOk (store (now (room .entry)))) ⌝ }
 {
-    for p in 0..4 {
+    for p in 0..PARTITIONS_MAX {
         if !partition_ok(room, p) {
             return false;
         }
@@ -149,7 +170,9 @@ fn good_halls(room: &[u64]) -> bool
     let halls = room::get(room, HALLS, 0, 0, 0, 0);
     let partitions = room::get(room, PARTITIONS, 0, 0, 0, 0);
     let held = partitions_held(room);
-    1 <= halls && (halls <= 4 && (masks_ok(room) && (partitions == held && partitions_ok(room))))
+    1 <= halls
+        && (halls <= HALLS_MAX as u64
+            && (masks_ok(room) && (partitions == held && partitions_ok(room))))
 }
 
 // "Each session has a home server"
@@ -169,7 +192,7 @@ fn homes_ok(room: &[u64]) -> bool
     requires { ⌜ length (now room) ≡ size ⌝ }
     ensures { λ r. ⌜ r ≡ all sessionsMax (homeOk (store (now (room .entry)))) ⌝ }
 {
-    for s in 0..16 {
+    for s in 0..SESSIONS_MAX {
         if !home_ok(room, s) {
             return false;
         }
@@ -182,7 +205,7 @@ fn good_sessions(room: &[u64]) -> bool
     ensures { λ r. ⌜ r ≡ goodSessions (store (now (room .entry))) ⌝ }
 {
     let sessions = room::get(room, SESSIONS, 0, 0, 0, 0);
-    1 <= sessions && (sessions <= 16 && homes_ok(room))
+    1 <= sessions && (sessions <= SESSIONS_MAX as u64 && homes_ok(room))
 }
 
 // Whether halls and sessions keep the rules of setup.
@@ -206,8 +229,8 @@ fn prepared_at(room: &[u64], t: usize) -> u64
     ensures { λ r. ⌜ r ≡ preparedAt (store (now (room .entry))) t ⌝ }
 {
     let mut n = 0;
-    for p in 0..4 {
-        n = one_more(n, 2 <= room::get(room, STATE, t, p, 0, 0));
+    for p in 0..PARTITIONS_MAX {
+        n = one_more(n, STATE_PREPARED <= room::get(room, STATE, t, p, 0, 0));
     }
     n
 }
@@ -217,7 +240,7 @@ fn pairs_prepared(room: &[u64]) -> u64
     ensures { λ r. ⌜ r ≡ pairsPrepared (store (now (room .entry))) ⌝ }
 {
     let mut n = 0;
-    for t in 0..64 {
+    for t in 0..PLACES_MAX {
         n += prepared_at(room, t);
     }
     n
@@ -248,12 +271,12 @@ fn in_time(
     room::get(room, kind, i, j, k, l) <= latest.0
 }
 
-// A channel: its messages' clocks, and its two counts.
+// The clocks of a channel's messages.
 fn clocks_ok(room: &[u64], latest: Timestamp, g: usize, p: usize, f: usize) -> bool
     requires { ⌜ (length (now room) ≡ size) × (g < hallsMax) × (p < partitionsMax) × (f < hallsMax) ⌝ }
     ensures { λ r. ⌜ r ≡ all slots (clockOk (store (now (room .entry))) (latest .0) g p f) ⌝ }
 {
-    for n in 0..8 {
+    for n in 0..SLOTS_MAX {
         if !in_time(room, latest, CLOCK_SENT, g, p, f, n) {
             return false;
         }
@@ -261,28 +284,28 @@ fn clocks_ok(room: &[u64], latest: Timestamp, g: usize, p: usize, f: usize) -> b
     true
 }
 
-fn channel_ok(room: &[u64], latest: Timestamp, g: usize, p: usize, f: usize) -> bool
-    requires { ⌜ (length (now room) ≡ size) × (g < hallsMax) × (p < partitionsMax) × (f < hallsMax) ⌝ }
-    ensures { λ r. ⌜ r ≡ channelOk (store (now (room .entry))) (latest .0) g p f ⌝ }
-{
-    let first = room::get(room, FIRST, g, p, f, 0);
-    let waiting = room::get(room, WAITING, g, p, f, 0);
-    first < 8 && (waiting <= 8 && clocks_ok(room, latest, g, p, f))
-}
-
-// What a server knows of hall g, and its channel from there.
+// What a server knows of hall g, and its channel from there: two counts, and its clocks.
 fn entry_ok(room: &[u64], latest: Timestamp, h: usize, p: usize, g: usize) -> bool
     requires { ⌜ (length (now room) ≡ size) × (h < hallsMax) × (p < partitionsMax) × (g < hallsMax) ⌝ }
     ensures { λ r. ⌜ r ≡ entryOk (store (now (room .entry))) (latest .0) h p g ⌝ }
 {
-    in_time(room, latest, ENTRY, h, p, g, 0) && channel_ok(room, latest, h, p, g)
+    let first = room::get(room, FIRST, h, p, g, 0);
+    let waiting = room::get(room, WAITING, h, p, g, 0);
+    let counts = both(
+        first < SLOTS_MAX as u64,
+        both(
+            waiting <= SLOTS_MAX as u64,
+            clocks_ok(room, latest, h, p, g),
+        ),
+    );
+    both(in_time(room, latest, ENTRY, h, p, g, 0), counts)
 }
 
 fn entries_ok(room: &[u64], latest: Timestamp, h: usize, p: usize) -> bool
     requires { ⌜ (length (now room) ≡ size) × (h < hallsMax) × (p < partitionsMax) ⌝ }
     ensures { λ r. ⌜ r ≡ all hallsMax (entryOk (store (now (room .entry))) (latest .0) h p) ⌝ }
 {
-    for g in 0..4 {
+    for g in 0..HALLS_MAX {
         if !entry_ok(room, latest, h, p, g) {
             return false;
         }
@@ -295,31 +318,25 @@ fn server_ok(room: &[u64], latest: Timestamp, h: usize, p: usize) -> bool
     ensures { λ r. ⌜ r ≡ serverOk (store (now (room .entry))) (latest .0) h p ⌝ }
 {
     let reading = room::get(room, READING, h, p, 0, 0);
-    reading <= READING_MAX
-        && (in_time(room, latest, HYBRID, h, p, 0, 0)
-            && (in_time(room, latest, STABLE, h, p, 0, 0)
-                && (in_time(room, latest, NOTE, h, p, 0, 0) && entries_ok(room, latest, h, p))))
+    let hybrid = in_time(room, latest, HYBRID, h, p, 0, 0);
+    let stable = in_time(room, latest, STABLE, h, p, 0, 0);
+    let note = in_time(room, latest, NOTE, h, p, 0, 0);
+    let entries = entries_ok(room, latest, h, p);
+    both(
+        reading <= READING_MAX,
+        both(hybrid, both(stable, both(note, entries))),
+    )
 }
 
-fn hall_ok(room: &[u64], latest: Timestamp, h: usize) -> bool
-    requires { ⌜ (length (now room) ≡ size) × (h < hallsMax) ⌝ }
-    ensures { λ r. ⌜ r ≡ hallOk (store (now (room .entry))) (latest .0) h ⌝ }
-{
-    for p in 0..4 {
-        if !server_ok(room, latest, h, p) {
-            return false;
-        }
-    }
-    true
-}
-
-fn halls_ok(room: &[u64], latest: Timestamp) -> bool
+fn servers_ok(room: &[u64], latest: Timestamp) -> bool
     requires { ⌜ length (now room) ≡ size ⌝ }
     ensures { λ r. ⌜ r ≡ all hallsMax (hallOk (store (now (room .entry))) (latest .0)) ⌝ }
 {
-    for h in 0..4 {
-        if !hall_ok(room, latest, h) {
-            return false;
+    for h in 0..HALLS_MAX {
+        for p in 0..PARTITIONS_MAX {
+            if !server_ok(room, latest, h, p) {
+                return false;
+            }
         }
     }
     true
@@ -329,7 +346,7 @@ fn cache_ok(room: &[u64], latest: Timestamp, s: usize) -> bool
     requires { ⌜ (length (now room) ≡ size) × (s < sessionsMax) ⌝ }
     ensures { λ r. ⌜ r ≡ all keys (cachedOk (store (now (room .entry))) (latest .0) s) ⌝ }
 {
-    for k in 0..32 {
+    for k in 0..KEYS_MAX {
         if !in_time(room, latest, CACHE_TIME, s, k, 0, 0) {
             return false;
         }
@@ -344,17 +361,20 @@ fn session_ok(room: &[u64], latest: Timestamp, s: usize) -> bool
     let status = room::get(room, STATUS, s, 0, 0, 0);
     let writes = room::get(room, WRITE_SET, s, 0, 0, 0);
     let reads = room::get(room, READ_SET, s, 0, 0, 0);
-    status <= 2
-        && (in_time(room, latest, SNAPSHOT, s, 0, 0, 0)
-            && (in_time(room, latest, LAST_COMMIT, s, 0, 0, 0)
-                && (writes < KEY_SETS && (reads < KEY_SETS && cache_ok(room, latest, s)))))
+    let snapshot = in_time(room, latest, SNAPSHOT, s, 0, 0, 0);
+    let last = in_time(room, latest, LAST_COMMIT, s, 0, 0, 0);
+    let sets = both(
+        writes < KEY_SETS,
+        both(reads < KEY_SETS, cache_ok(room, latest, s)),
+    );
+    both(status <= COMMITTING, both(snapshot, both(last, sets)))
 }
 
 fn sessions_ok(room: &[u64], latest: Timestamp) -> bool
     requires { ⌜ length (now room) ≡ size ⌝ }
     ensures { λ r. ⌜ r ≡ all sessionsMax (sessionOk (store (now (room .entry))) (latest .0)) ⌝ }
 {
-    for s in 0..16 {
+    for s in 0..SESSIONS_MAX {
         if !session_ok(room, latest, s) {
             return false;
         }
@@ -362,27 +382,15 @@ fn sessions_ok(room: &[u64], latest: Timestamp) -> bool
     true
 }
 
-// The highest state that place t may have: a place that no transaction has yet has none.
-fn highest_state(room: &[u64], t: usize) -> u64
+// The most that place t may have where a transaction at it may have `most`: one that no transaction has yet has nothing.
+fn most_at(room: &[u64], t: usize, most: u64) -> u64
     requires { ⌜ length (now room) ≡ size ⌝ }
-    ensures { λ r. ⌜ r ≡ highestState (store (now (room .entry))) t ⌝ }
+    ensures { λ r. ⌜ r ≡ mostAt (store (now (room .entry))) t most ⌝ }
 {
     if (t as u64) < room::get(room, TRANSACTIONS, 0, 0, 0, 0) {
-        4
+        most
     } else {
         0
-    }
-}
-
-// The latest commit time that place t may have: a place that no transaction has yet is undecided.
-fn latest_commit(room: &[u64], latest: Timestamp, t: usize) -> Timestamp
-    requires { ⌜ length (now room) ≡ size ⌝ }
-    ensures { λ r. ⌜ r .0 ≡ latestCommit (store (now (room .entry))) (latest .0) t ⌝ }
-{
-    if (t as u64) < room::get(room, TRANSACTIONS, 0, 0, 0, 0) {
-        latest
-    } else {
-        Timestamp(0)
     }
 }
 
@@ -392,15 +400,16 @@ fn pair_ok(room: &[u64], latest: Timestamp, t: usize, p: usize) -> bool
 {
     let state = room::get(room, STATE, t, p, 0, 0);
     let proposed = room::get(room, PROPOSED, t, p, 0, 0);
-    let highest = highest_state(room, t);
-    state <= highest && (proposed <= latest.0 && (state != 2 || 1 <= proposed))
+    let highest = most_at(room, t, STATE_INSTALLED);
+    let known = implied(state == STATE_PREPARED, 1 <= proposed);
+    both(state <= highest, both(proposed <= latest.0, known))
 }
 
 fn pairs_ok(room: &[u64], latest: Timestamp, t: usize) -> bool
     requires { ⌜ (length (now room) ≡ size) × (t < placesMax) ⌝ }
     ensures { λ r. ⌜ r ≡ all partitionsMax (pairOk (store (now (room .entry))) (latest .0) t) ⌝ }
 {
-    for p in 0..4 {
+    for p in 0..PARTITIONS_MAX {
         if !pair_ok(room, latest, t, p) {
             return false;
         }
@@ -417,18 +426,20 @@ fn transaction_ok(room: &[u64], latest: Timestamp, t: usize) -> bool
     let from = room::get(room, FROM, t, 0, 0, 0);
     let halls = room::get(room, HALLS, 0, 0, 0, 0);
     let writes = room::get(room, KEY_SET, t, 0, 0, 0);
-    let commit = latest_commit(room, latest, t);
-    by < sessions
-        && (from < halls
-            && (in_time(room, commit, COMMIT_TIME, t, 0, 0, 0)
-                && (writes < KEY_SETS && pairs_ok(room, latest, t))))
+    let decided = Timestamp(most_at(room, t, latest.0));
+    let commit = in_time(room, decided, COMMIT_TIME, t, 0, 0, 0);
+    let pairs = pairs_ok(room, latest, t);
+    both(
+        by < sessions,
+        both(from < halls, both(commit, both(writes < KEY_SETS, pairs))),
+    )
 }
 
 fn transactions_ok(room: &[u64], latest: Timestamp) -> bool
     requires { ⌜ length (now room) ≡ size ⌝ }
     ensures { λ r. ⌜ r ≡ all placesMax (transactionOk (store (now (room .entry))) (latest .0)) ⌝ }
 {
-    for t in 0..64 {
+    for t in 0..PLACES_MAX {
         if !transaction_ok(room, latest, t) {
             return false;
         }
@@ -436,25 +447,15 @@ fn transactions_ok(room: &[u64], latest: Timestamp) -> bool
     true
 }
 
-fn shares_ok(room: &[u64], latest: Timestamp, to: usize) -> bool
-    requires { ⌜ (length (now room) ≡ size) × (to < hallsMax) ⌝ }
-    ensures { λ r. ⌜ r ≡ sharesOk (store (now (room .entry))) (latest .0) to ⌝ }
-{
-    for f in 0..4 {
-        if !in_time(room, latest, SHARED, to, f, 0, 0) {
-            return false;
-        }
-    }
-    true
-}
-
-fn all_shares_ok(room: &[u64], latest: Timestamp) -> bool
+fn shares_ok(room: &[u64], latest: Timestamp) -> bool
     requires { ⌜ length (now room) ≡ size ⌝ }
     ensures { λ r. ⌜ r ≡ all hallsMax (sharesOk (store (now (room .entry))) (latest .0)) ⌝ }
 {
-    for to in 0..4 {
-        if !shares_ok(room, latest, to) {
-            return false;
+    for to in 0..HALLS_MAX {
+        for f in 0..HALLS_MAX {
+            if !in_time(room, latest, SHARED, to, f, 0, 0) {
+                return false;
+            }
         }
     }
     true
@@ -465,9 +466,8 @@ fn kept_ok(room: &[u64], latest: Timestamp) -> bool
     requires { ⌜ length (now room) ≡ size ⌝ }
     ensures { λ r. ⌜ r ≡ keptOk (store (now (room .entry))) (latest .0) ⌝ }
 {
-    halls_ok(room, latest)
-        && (sessions_ok(room, latest)
-            && (transactions_ok(room, latest) && all_shares_ok(room, latest)))
+    servers_ok(room, latest)
+        && (sessions_ok(room, latest) && (transactions_ok(room, latest) && shares_ok(room, latest)))
 }
 
 // "docs/ defines that by one yes or no, true of every room reached from setup"
@@ -478,5 +478,5 @@ pub fn well_formed(room: &[u64]) -> bool
         return false;
     }
     let transactions = room::get(room, TRANSACTIONS, 0, 0, 0, 0);
-    good_setup(room) && (transactions <= 64 && kept_ok(room, time_bound(room)))
+    good_setup(room) && (transactions <= PLACES_MAX as u64 && kept_ok(room, time_bound(room)))
 }

@@ -1,34 +1,24 @@
-use Prim.Native.Nat.{_≤_, _-_}
-use mathlib.Core.Bool.{true}
-use mathlib.Core.Path.{_≡_, sym, _∙_}
+use Prim.Native.Nat.{_-_}
 use native.Mathlib.Omega.{arith}
-use borrow.Author.Tests.{not-true, not-false}
-use Rattle.book.specs.Sizes.{slots}
-use Rattle.book.specs.Folds.{all}
-use Rattle.room.specs.Layout.{store}
-use Rattle.room.specs.Loops.{all-none, all-next, all-fails}
-use Rattle.formed.specs.Blocks.{clockOk}
 use borrow.Author.Needs.{needs}
+use Rattle.book.specs.Sizes.{slots}
+use Rattle.room.specs.Layout.{store}
+use Rattle.formed.specs.Blocks.{clockOk}
+use Rattle.formed.specs.Passing.{Passed, begins, stops, goes-on, ends}
 use Rattle.formed.proofs.clocks_ok.Statement.{statement}
 use Rattle.formed.proofs.clocks_ok.Tie as tie
-
-abbrev Inv-loop : tie.InvT-loop
-Inv-loop room latest g p f n₀ n = (n ≤ slots) × (all n (clockOk (store room) (latest .0) g p f) ≡ true)
-
-abbrev μ-loop : tie.MeasureT-loop
-μ-loop room latest g p f n₀ n = slots - n
 
 pub clocks-ok-spec : {M : Type 1} → statement M
 clocks-ok-spec =
     tie.close
     (tie.spec
-    Inv-loop
-    μ-loop
-    (λ c. (search needs, all-none _))
+    (λ room latest g p f n₀ n. Passed slots (clockOk (store room) (latest .0) g p f) n)
+    (λ room latest g p f n₀ n. slots - n)
+    (λ c. begins _ _)
     (λ c κs. search needs)
-    (λ c. let a = c .before .before .before .before .before .args in
-    sym (all-fails slots (clockOk (store (a .room .now)) (a .latest .0) (a .g) (a .p) (a .f)) (c .before .before .before .loop .n) (omega arith) (sym (c .before .in-time .ensures) ∙ not-true _ (c .if1 .taken))))
+    (λ c. stops _ _ (c .before .before .before .loop .n) (omega arith) (c .before .in-time .ensures) (c .if1 .taken))
     (λ c. search needs)
     (λ c. search needs)
-    (λ c. (search needs, rw (all-next, sym (c .before .in-time .ensures) ∙ not-false _ (c .if1 .left)) (c .before .before .before .loop .inv .1)))
-    (λ c. let l = c .before .loop in let e : l .n ≡ slots = omega arith in sym (rw e at (l .inv .1))))
+    (λ c. let l = c .before .before .before .loop in
+    goes-on _ _ (l .n) (l .inv .1) (omega arith) (c .before .in-time .ensures) (c .if1 .left))
+    (λ c. ends _ _ _ (c .before .loop .inv) (omega arith)))

@@ -1,4 +1,3 @@
-use mathlib.Core.Path.{sym, _∙_}
 use borrow.Author.Needs.{needs}
 use Rattle.formed.proofs.entry_ok.Statement.{statement}
 use Rattle.formed.proofs.entry_ok.Tie as tie
@@ -9,5 +8,18 @@ entry-ok-spec =
     (tie.spec
     (λ c κs. search needs)
     (λ c κs. search needs)
-    (λ c. rw (sym (c .before .before .in-time .ensures) ∙ c .before .if1 .taken) (c .channel-ok .ensures))
-    (λ c. rw (sym (c .before .in-time .ensures) ∙ c .if1 .left) (c .if1 .left)))
+    (λ c κs. search needs)
+    (λ c κs. search needs)
+    (λ c κs. search needs)
+    (λ c κs. search needs)
+    (λ c κs. search needs)
+    (λ c. let k = c .before .before .before .before in
+    let g = k .before in rw (
+      c .both3 .ensures,
+      c .before .in-time .ensures,
+      c .before .before .both2 .ensures,
+      c .before .before .before .both .ensures,
+      k .clocks-ok .ensures,
+      g .get2 .ensures,
+      g .before .get .ensures,
+    )))

@@ -1,4 +1,3 @@
-use borrow.Author.Tests.{eq-eqb, ne-eqb, le-leb, lt-leb}
 use borrow.Author.Needs.{needs}
 use Rattle.formed.proofs.pair_ok.Statement.{statement}
 use Rattle.formed.proofs.pair_ok.Tie as tie
@@ -10,7 +9,9 @@ pair-ok-spec =
     (λ c κs. search needs)
     (λ c κs. search needs)
     (λ c κs. search needs)
-    (λ c. rw (← (c .before .before .before .before .highest-state .ensures), ← (c .before .before .before .before .before .before .get .ensures), ← (c .before .before .before .before .before .get2 .ensures), le-leb _ _ (c .before .before .before .if1 .taken), le-leb _ _ (c .before .if2 .taken), ne-eqb _ _ (c .if3 .taken)))
-    (λ c. rw (← (c .before .before .before .before .highest-state .ensures), ← (c .before .before .before .before .before .before .get .ensures), ← (c .before .before .before .before .before .get2 .ensures), le-leb _ _ (c .before .before .before .if1 .taken), le-leb _ _ (c .before .if2 .taken), eq-eqb _ _ (c .if3 .left)))
-    (λ c. rw (← (c .before .before .before .highest-state .ensures), ← (c .before .before .before .before .before .get .ensures), ← (c .before .before .before .before .get2 .ensures), le-leb _ _ (c .before .before .if1 .taken), lt-leb _ _ (c .if2 .left)))
-    (λ c. rw (← (c .before .highest-state .ensures), ← (c .before .before .before .get .ensures), lt-leb _ _ (c .if1 .left))))
+    (λ c κs. search needs)
+    (λ c κs. search needs)
+    (λ c κs. search needs)
+    (λ c. let i = c .before .before .before in
+    let g = i .before .before in
+    rw (c .both2 .ensures, c .before .both .ensures, i .implied .ensures, i .before .most-at .ensures, g .get2 .ensures, g .before .get .ensures)))

@@ -1,5 +1,3 @@
-use mathlib.Core.Path.{sym, _∙_}
-use borrow.Author.Tests.{le-leb, lt-leb}
 use borrow.Author.Needs.{needs}
 use Rattle.formed.proofs.server_ok.Statement.{statement}
 use Rattle.formed.proofs.server_ok.Tie as tie
@@ -13,8 +11,18 @@ server-ok-spec =
     (λ c κs. search needs)
     (λ c κs. search needs)
     (λ c κs. search needs)
-    (λ c. rw (rw (c .before .before .before .before .before .before .before .before .get .ensures) at (le-leb _ _ (c .before .before .before .before .before .before .before .if1 .taken)), sym (c .before .before .before .before .before .before .in-time .ensures) ∙ c .before .before .before .before .before .if2 .taken, sym (c .before .before .before .before .in-time2 .ensures) ∙ c .before .before .before .if3 .taken, sym (c .before .before .in-time3 .ensures) ∙ c .before .if4 .taken) (c .entries-ok .ensures))
-    (λ c. rw (rw (c .before .before .before .before .before .before .before .get .ensures) at (le-leb _ _ (c .before .before .before .before .before .before .if1 .taken)), sym (c .before .before .before .before .before .in-time .ensures) ∙ c .before .before .before .before .if2 .taken, sym (c .before .before .before .in-time2 .ensures) ∙ c .before .before .if3 .taken, sym (c .before .in-time3 .ensures) ∙ c .if4 .left) (c .if4 .left))
-    (λ c. rw (rw (c .before .before .before .before .before .get .ensures) at (le-leb _ _ (c .before .before .before .before .if1 .taken)), sym (c .before .before .before .in-time .ensures) ∙ c .before .before .if2 .taken, sym (c .before .in-time2 .ensures) ∙ c .if3 .left) (c .if3 .left))
-    (λ c. rw (rw (c .before .before .before .get .ensures) at (le-leb _ _ (c .before .before .if1 .taken)), sym (c .before .in-time .ensures) ∙ c .if2 .left) (c .if2 .left))
-    (λ c. rw (rw (c .before .get .ensures) at (lt-leb _ _ (c .if1 .left))) (lt-leb _ _ (c .if1 .left))))
+    (λ c κs. search needs)
+    (λ c κs. search needs)
+    (λ c κs. search needs)
+    (λ c κs. search needs)
+    (λ c. let e = c .before .before .before .before in rw (
+      c .both4 .ensures,
+      c .before .both3 .ensures,
+      c .before .before .both2 .ensures,
+      c .before .before .before .both .ensures,
+      e .entries-ok .ensures,
+      e .before .in-time3 .ensures,
+      e .before .before .in-time2 .ensures,
+      e .before .before .before .in-time .ensures,
+      e .before .before .before .before .get .ensures,
+    )))

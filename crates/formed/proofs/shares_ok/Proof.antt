@@ -1,34 +1,35 @@
-use Prim.Native.Nat.{_≤_, _-_}
-use mathlib.Core.Bool.{true}
-use mathlib.Core.Path.{_≡_, sym, _∙_}
+use Prim.Native.Nat.{_-_}
+use mathlib.Core.Path.{refl}
 use native.Mathlib.Omega.{arith}
-use borrow.Author.Tests.{not-true, not-false}
-use Rattle.book.specs.Sizes.{hallsMax}
-use Rattle.book.specs.Folds.{all}
-use Rattle.room.specs.Layout.{store}
-use Rattle.room.specs.Loops.{all-none, all-next, all-fails}
-use Rattle.book.specs.WellFormed.{sharedOk}
 use borrow.Author.Needs.{needs}
+use Rattle.book.specs.Sizes.{hallsMax}
+use Rattle.book.specs.WellFormed.{sharedOk}
+use Rattle.room.specs.Layout.{store}
+use Rattle.formed.specs.Blocks.{sharesOk}
+use Rattle.formed.specs.Passing.{Passed, begins, stops, goes-on, ends}
 use Rattle.formed.proofs.shares_ok.Statement.{statement}
 use Rattle.formed.proofs.shares_ok.Tie as tie
-
-abbrev Inv-loop : tie.InvT-loop
-Inv-loop room latest to f₀ f = (f ≤ hallsMax) × (all f (sharedOk (store room) (latest .0) to) ≡ true)
-
-abbrev μ-loop : tie.MeasureT-loop
-μ-loop room latest to f₀ f = hallsMax - f
 
 pub shares-ok-spec : {M : Type 1} → statement M
 shares-ok-spec =
     tie.close
     (tie.spec
-    Inv-loop
-    μ-loop
-    (λ c. (search needs, all-none _))
+    (λ room latest to f₀ f. Passed hallsMax (sharedOk (store room) (latest .0) to) f)
+    (λ room latest to f₀ f. hallsMax - f)
+    (λ room latest to₀ to. Passed hallsMax (sharesOk (store room) (latest .0)) to)
+    (λ room latest to₀ to. hallsMax - to)
+    (λ c. begins _ _)
+    (λ c. begins _ _)
     (λ c κs. search needs)
-    (λ c. let a = c .before .before .before .before .before .args in
-    sym (all-fails hallsMax (sharedOk (store (a .room .now)) (a .latest .0) (a .to)) (c .before .before .before .loop .f) (omega arith) (sym (c .before .in-time .ensures) ∙ not-true _ (c .if1 .taken))))
+    (λ c. let l = c .before .before .before in
+    let s = stops _ _ (l .loop2 .f) (omega arith) (c .before .in-time .ensures) (c .if1 .taken) in
+    stops _ _ (l .before .before .loop .to) (omega arith) s refl)
     (λ c. search needs)
     (λ c. search needs)
-    (λ c. (search needs, rw (all-next, sym (c .before .in-time .ensures) ∙ not-false _ (c .if1 .left)) (c .before .before .before .loop .inv .1)))
-    (λ c. let l = c .before .loop in let e : l .f ≡ hallsMax = omega arith in sym (rw e at (l .inv .1))))
+    (λ c. let l = c .before .before .before .loop2 in
+    goes-on _ _ (l .f) (l .inv .1) (omega arith) (c .before .in-time .ensures) (c .if1 .left))
+    (λ c. search needs)
+    (λ c. search needs)
+    (λ c. let l = c .before .before .before .loop in
+    goes-on _ _ (l .to) (l .inv .1) (omega arith) (ends _ _ _ (c .before .loop2 .inv) (omega arith)) refl)
+    (λ c. ends _ _ _ (c .before .loop .inv) (omega arith)))

@@ -1,10 +1,10 @@
-use borrow.Author.Tests.{lt-ltb, le-ltb}
 use borrow.Author.Needs.{needs}
-use Rattle.formed.proofs.highest_state.Statement.{statement}
-use Rattle.formed.proofs.highest_state.Tie as tie
+use borrow.Author.Tests.{lt-ltb, le-ltb}
+use Rattle.formed.proofs.most_at.Statement.{statement}
+use Rattle.formed.proofs.most_at.Tie as tie
 
-pub highest-state-spec : {M : Type 1} → statement M
-highest-state-spec =
+pub most-at-spec : {M : Type 1} → statement M
+most-at-spec =
     tie.close
     (tie.spec
     (λ c κs. search needs)
