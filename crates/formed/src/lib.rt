@@ -170,9 +170,12 @@ fn good_halls(room: &[u64]) -> bool
     let halls = room::get(room, HALLS, 0, 0, 0, 0);
     let partitions = room::get(room, PARTITIONS, 0, 0, 0, 0);
     let held = partitions_held(room);
-    1 <= halls
-        && (halls <= HALLS_MAX as u64
-            && (masks_ok(room) && (partitions == held && partitions_ok(room))))
+    let masks = masks_ok(room);
+    let all_held = both(partitions == held, partitions_ok(room));
+    both(
+        1 <= halls,
+        both(halls <= HALLS_MAX as u64, both(masks, all_held)),
+    )
 }
 
 // "Each session has a home server"
@@ -205,7 +208,10 @@ fn good_sessions(room: &[u64]) -> bool
     ensures { λ r. ⌜ r ≡ goodSessions (store (now (room .entry))) ⌝ }
 {
     let sessions = room::get(room, SESSIONS, 0, 0, 0, 0);
-    1 <= sessions && (sessions <= SESSIONS_MAX as u64 && homes_ok(room))
+    both(
+        1 <= sessions,
+        both(sessions <= SESSIONS_MAX as u64, homes_ok(room)),
+    )
 }
 
 // Whether halls and sessions keep the rules of setup.

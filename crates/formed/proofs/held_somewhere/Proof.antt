@@ -12,22 +12,16 @@ use borrow.Author.Needs.{needs}
 use Rattle.formed.proofs.held_somewhere.Statement.{statement}
 use Rattle.formed.proofs.held_somewhere.Tie as tie
 
-abbrev Inv-loop : tie.InvT-loop
-Inv-loop room p h₀ h = (h ≤ hallsMax) × (any h (hasBit (store room) p) ≡ false)
-
-abbrev μ-loop : tie.MeasureT-loop
-μ-loop room p h₀ h = hallsMax - h
-
 pub held-somewhere-spec : {M : Type 1} → statement M
 held-somewhere-spec =
     tie.close
     (tie.spec
-    Inv-loop
-    μ-loop
+    (λ room p h₀ h. (h ≤ hallsMax) × (any h (hasBit (store room) p) ≡ false))
+    (λ room p h₀ h. hallsMax - h)
     (λ c. (search needs, any-none _))
     (λ c κs. search needs)
-    (λ c. let a = c .before .before .before .before .before .args in
-    sym (any-i hallsMax (hasBit (store (a .room .now)) (a .p)) (c .before .before .before .loop .h) (omega arith) (sym (c .before .hall-has .ensures) ∙ c .if1 .taken)))
+    (λ c. let e = sym (c .before .hall-has .ensures) ∙ c .if1 .taken in
+    sym (any-i hallsMax _ (c .before .before .before .loop .h) (omega arith) e))
     (λ c. search needs)
     (λ c. search needs)
     (λ c. (search needs, rw (any-next, sym (c .before .hall-has .ensures) ∙ c .if1 .left) (c .before .before .before .loop .inv .1)))

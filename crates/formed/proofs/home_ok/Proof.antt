@@ -12,4 +12,6 @@ home-ok-spec =
     (λ c κs. search needs)
     (λ c κs. search needs)
     (λ c κs. search needs)
-    (λ c. rw (rw (c .before .before .before .before .get .ensures) at (lt-ltb _ _ (c .before .before .before .if1 .left)), ← (c .before .before .get2 .ensures), ← (c .before .get3 .ensures)) (c .holds .ensures)))
+    (λ c. let i = c .before .before .before in
+    let t = rw (i .before .get .ensures) at (lt-ltb _ _ (i .if1 .left)) in
+    rw (t, ← (c .before .before .get2 .ensures), ← (c .before .get3 .ensures)) (c .holds .ensures)))

@@ -13,5 +13,11 @@ pair-ok-spec =
     (λ c κs. search needs)
     (λ c κs. search needs)
     (λ c. let i = c .before .before .before in
-    let g = i .before .before in
-    rw (c .both2 .ensures, c .before .both .ensures, i .implied .ensures, i .before .most-at .ensures, g .get2 .ensures, g .before .get .ensures)))
+    let g = i .before .before in rw (
+      c .both2 .ensures,
+      c .before .both .ensures,
+      i .implied .ensures,
+      i .before .most-at .ensures,
+      g .get2 .ensures,
+      g .before .get .ensures,
+    )))

@@ -11,21 +11,17 @@ use borrow.Author.Needs.{needs}
 use Rattle.formed.proofs.pairs_prepared.Statement.{statement}
 use Rattle.formed.proofs.pairs_prepared.Tie as tie
 
-abbrev Inv-loop : tie.InvT-loop
-Inv-loop room n₀ t₀ n t = (t ≤ placesMax) × (n ≡ sum t (preparedAt (store room)))
-
-abbrev μ-loop : tie.MeasureT-loop
-μ-loop room n₀ t₀ n t = placesMax - t
-
 pub pairs-prepared-spec : {M : Type 1} → statement M
 pairs-prepared-spec =
     tie.close
     (tie.spec
-    Inv-loop
-    μ-loop
+    (λ room n₀ t₀ n t. (t ≤ placesMax) × (n ≡ sum t (preparedAt (store room))))
+    (λ room n₀ t₀ n t. placesMax - t)
     (λ c. (search needs, sum-none _))
     (λ c κs. search needs)
-    (λ c. let σ = store (c .before .before .before .before .args .room .now) in omega (arith, pairs-le (c .before .before .loop .t) σ, prepared-le σ (c .before .before .loop .t)))
+    (λ c. let l = c .before .before in
+    let σ = store (l .before .before .args .room .now) in
+    omega (arith, pairs-le (l .loop .t) σ, prepared-le σ (l .loop .t)))
     (λ c. search needs)
     (λ c. search needs)
     (λ c. (search needs, rw (sum-next, ← (c .before .before .loop .inv .1), c .prepared-at .ensures)))

@@ -9,18 +9,12 @@ use borrow.Author.Needs.{needs}
 use Rattle.formed.proofs.partitions_held.Statement.{statement}
 use Rattle.formed.proofs.partitions_held.Tie as tie
 
-abbrev Inv-loop : tie.InvT-loop
-Inv-loop room n₀ p₀ n p = (p ≤ partitionsMax) × (n ≡ highest p (heldSomewhere (store room)))
-
-abbrev μ-loop : tie.MeasureT-loop
-μ-loop room n₀ p₀ n p = partitionsMax - p
-
 pub partitions-held-spec : {M : Type 1} → statement M
 partitions-held-spec =
     tie.close
     (tie.spec
-    Inv-loop
-    μ-loop
+    (λ room n₀ p₀ n p. (p ≤ partitionsMax) × (n ≡ highest p (heldSomewhere (store room))))
+    (λ room n₀ p₀ n p. partitionsMax - p)
     (λ c. (search needs, highest-none _))
     (λ c κs. search needs)
     (λ c. search needs)

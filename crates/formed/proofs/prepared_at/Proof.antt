@@ -12,21 +12,17 @@ use borrow.Author.Needs.{needs}
 use Rattle.formed.proofs.prepared_at.Statement.{statement}
 use Rattle.formed.proofs.prepared_at.Tie as tie
 
-abbrev Inv-loop : tie.InvT-loop
-Inv-loop room t n₀ p₀ n p = (p ≤ partitionsMax) × (n ≡ count p (λ q. leb prepared (store room (State t q))))
-
-abbrev μ-loop : tie.MeasureT-loop
-μ-loop room t n₀ p₀ n p = partitionsMax - p
-
 pub prepared-at-spec : {M : Type 1} → statement M
 prepared-at-spec =
     tie.close
     (tie.spec
-    Inv-loop
-    μ-loop
+    (λ room t n₀ p₀ n p. (p ≤ partitionsMax) × (n ≡ count p (λ q. leb prepared (store room (State t q)))))
+    (λ room t n₀ p₀ n p. partitionsMax - p)
     (λ c. (search needs, count-none _))
     (λ c κs. search needs)
-    (λ c κs. omega (arith, count-le (c .before .before .loop .p) (λ q. leb prepared (store (c .before .before .before .before .args .room .now) (State (c .before .before .before .before .args .t) q)))))
+    (λ c κs. let l = c .before .before in
+    let a = l .before .before .args in
+    omega (arith, count-le (l .loop .p) (λ q. leb prepared (store (a .room .now) (State (a .t) q)))))
     (λ c. search needs)
     (λ c. search needs)
     (λ c. (search needs, rw (count-next, ← (c .before .before .before .loop .inv .1), ← (c .before .get .ensures)) (c .one-more .ensures)))

@@ -15,6 +15,17 @@ well-formed-spec =
     (λ c κs. search needs)
     (λ c κs. search needs)
     (λ c κs. search needs)
-    (λ c. rw (eq-eqb _ _ (c .before .before .before .before .before .before .if1 .left), sym (c .before .before .before .before .good-setup .ensures) ∙ c .before .before .before .if2 .taken, rw (c .before .before .before .before .before .get .ensures) at (le-leb _ _ (c .before .before .if3 .taken)), ← (c .before .time-bound .ensures)) (c .kept-ok .ensures))
-    (λ c. rw (eq-eqb _ _ (c .before .before .before .before .if1 .left), sym (c .before .before .good-setup .ensures) ∙ c .before .if2 .taken, rw (c .before .before .before .get .ensures) at (lt-leb _ _ (c .if3 .left))) (lt-leb _ _ (c .if3 .left)))
+    (λ c. let g = c .before .before .before .before in
+    let t = rw (g .before .get .ensures) at (le-leb _ _ (c .before .before .if3 .taken)) in rw (
+      eq-eqb _ _ (g .before .before .if1 .left),
+      sym (g .good-setup .ensures) ∙ c .before .before .before .if2 .taken,
+      t,
+      ← (c .before .time-bound .ensures),
+    ) (c .kept-ok .ensures))
+    (λ c. let g = c .before .before in
+    let t = rw (g .before .get .ensures) at (lt-leb _ _ (c .if3 .left)) in rw (
+      eq-eqb _ _ (g .before .before .if1 .left),
+      sym (g .good-setup .ensures) ∙ c .before .if2 .taken,
+      t,
+    ) (lt-leb _ _ (c .if3 .left)))
     (λ c. rw (eq-eqb _ _ (c .before .before .before .if1 .left), sym (c .before .good-setup .ensures) ∙ c .if2 .left) (c .if2 .left)))
