@@ -13,6 +13,11 @@ ghost use Rattle.commits.specs.Cache.{keyCached, cached};
 ghost use Rattle.commits.specs.Safe.{Coordinated, Timely, Writing};
 use book::Answer;
 use book::Clock;
+use book::IDLE;
+use book::KEYS_MAX;
+use book::PARTITIONS_MAX;
+use book::STATE_PREPARED;
+use book::STATE_WAITING;
 use book::Timestamp;
 use book::TxNumber;
 use clocks::proposed;
@@ -34,12 +39,6 @@ use room::WRITE_SET;
 use servers::place_of;
 use servers::writing_hall;
 use times::larger;
-
-const IDLE: u64 = 0;
-
-const PREPARED: u64 = 2;
-
-const WAITING: u64 = 3;
 
 fn session_of(room: &[u64], t: usize) -> usize
     requires { ⌜ (length (now room) ≡ size) × (t < placesMax) × (store (now room) (By t) < sessionsMax) ⌝ }
@@ -69,7 +68,7 @@ pub fn prepare(room: &mut [u64], n: TxNumber, p: usize) -> Answer
     let c = proposed_at(room, t, h, p);
     put_back(room, h, p, c);
     room::put(room, PROPOSED, t, p, 0, 0, c.hybrid.0);
-    room::put(room, STATE, t, p, 0, 0, PREPARED);
+    room::put(room, STATE, t, p, 0, 0, STATE_PREPARED);
     Answer::Answered(c.hybrid.0, 0)
 }
 
@@ -78,7 +77,7 @@ fn later_proposal(room: &[u64], t: usize, p: usize, x: Timestamp) -> Timestamp
     requires { ⌜ (length (now room) ≡ size) × (t < placesMax) × (p < partitionsMax) ⌝ }
     ensures { λ r. ⌜ r .0 ≡ laterProposal (store (now (room .entry))) t p (x .0) ⌝ }
 {
-    if room::get(room, STATE, t, p, 0, 0) == PREPARED {
+    if room::get(room, STATE, t, p, 0, 0) == STATE_PREPARED {
         larger(Timestamp(room::get(room, PROPOSED, t, p, 0, 0)), x)
     } else {
         x
@@ -91,7 +90,7 @@ fn largest_proposal(room: &[u64], t: usize) -> Timestamp
     ensures { λ r. ⌜ r .0 ≡ decision (store (now (room .entry))) t ⌝ }
 {
     let mut x = Timestamp(0);
-    for p in 0..4 {
+    for p in 0..PARTITIONS_MAX {
         x = later_proposal(room, t, p, x);
     }
     x
@@ -114,7 +113,7 @@ fn move_to_cache(room: &mut [u64], t: usize, s: usize, time: Timestamp)
     ensures { λ r. ⌜ (length (now (room .exit)) ≡ size) × (store (now (room .exit)) ≡ cached (store (now (room .entry))) t s (time .0)) ⌝ }
 {
     let keys = room::get(room, KEY_SET, t, 0, 0, 0);
-    for k in 0..32 {
+    for k in 0..KEYS_MAX {
         cache_key(room, t, s, time, keys, k);
     }
 }
@@ -145,6 +144,6 @@ pub fn commit(room: &mut [u64], n: TxNumber, p: usize) -> Answer
     let time = Timestamp(room::get(room, COMMIT_TIME, t, 0, 0, 0));
     let c = after_commit(take(room, h, p), time);
     put_back(room, h, p, c);
-    room::put(room, STATE, t, p, 0, 0, WAITING);
+    room::put(room, STATE, t, p, 0, 0, STATE_WAITING);
     Answer::Answered(c.hybrid.0, 0)
 }

@@ -10,6 +10,8 @@ ghost use Rattle.book.specs.GossipSteps.{lowestEntry, report as reported, lowes
 ghost use Rattle.room.specs.Layout.{size, store};
 ghost use Rattle.times.specs.Lowest.{joined};
 use book::Answer;
+use book::HALLS_MAX;
+use book::PARTITIONS_MAX;
 use book::Timestamp;
 use room::HALLS;
 use room::NOTE;
@@ -47,7 +49,7 @@ fn lowest_of(room: &[u64], f: usize) -> Timestamp
     ensures { λ r. ⌜ r .0 ≡ lowestOf (store (now (room .entry))) f ⌝ }
 {
     let mut l = none();
-    for p in 0..4 {
+    for p in 0..PARTITIONS_MAX {
         l = with_note(room, f, p, l);
     }
     l.time
@@ -78,7 +80,7 @@ fn lowest_shared(room: &[u64], h: usize) -> Timestamp
     ensures { λ r. ⌜ r .0 ≡ lowestShared (store (now (room .entry))) h ⌝ }
 {
     let mut l = none();
-    for f in 0..4 {
+    for f in 0..HALLS_MAX {
         l = with_shared(room, h, f, l);
     }
     l.time

@@ -14,8 +14,17 @@ ghost use Rattle.book.specs.Steps.{refusal as refusalOf};
 ghost use Rattle.replication.specs.Safe.{Coordinated, Timely};
 ghost use Rattle.ladders.specs.Sized.{Sized};
 ghost use Rattle.ladders.specs.Full.{fullTo};
+use book::HALLS_MAX;
+use book::IDLE;
+use book::KEYS_MAX;
+use book::PARTITIONS_MAX;
+use book::PLACES_MAX;
 use book::READING_MAX;
+use book::RUNNING;
 use book::Reading;
+use book::SLOTS_MAX;
+use book::STATE_ASKED;
+use book::STATE_PREPARED;
 use book::Timestamp;
 use book::TxNumber;
 use book::VALUE_MAX;
@@ -107,7 +116,7 @@ pub fn start(room: &[u64], s: u64, y: u64, z: u64) -> u64
     if !session_alone(room, s, y, z) {
         return 3;
     }
-    when(room::get(room, STATUS, s as usize, 0, 0, 0) != 0, 6, 0)
+    when(room::get(room, STATUS, s as usize, 0, 0, 0) != IDLE, 6, 0)
 }
 
 pub fn read(room: &[u64], s: u64, k: u64, h: u64) -> u64
@@ -117,18 +126,22 @@ pub fn read(room: &[u64], s: u64, k: u64, h: u64) -> u64
     if !key_there(room, s, k, h) {
         return 3;
     }
-    when(room::get(room, STATUS, s as usize, 0, 0, 0) != 1, 7, 0)
+    when(
+        room::get(room, STATUS, s as usize, 0, 0, 0) != RUNNING,
+        7,
+        0,
+    )
 }
 
 pub fn write(room: &[u64], s: u64, k: u64, v: u64) -> u64
     requires { ⌜ (length (now room) ≡ size) × Sized (store (now room)) ⌝ }
     ensures { λ r. ⌜ r ≡ writeRefusal (store (now (room .entry))) s k v ⌝ }
 {
-    if !both(session_there(room, s), k < 32) {
+    if !both(session_there(room, s), k < KEYS_MAX as u64) {
         return 3;
     }
     let status = room::get(room, STATUS, s as usize, 0, 0, 0);
-    when(v > VALUE_MAX, 12, when(status != 1, 7, 0))
+    when(v > VALUE_MAX, 12, when(status != RUNNING, 7, 0))
 }
 
 pub fn end(room: &[u64], s: u64, y: u64, z: u64) -> u64
@@ -141,7 +154,11 @@ pub fn end(room: &[u64], s: u64, y: u64, z: u64) -> u64
     let status = room::get(room, STATUS, s as usize, 0, 0, 0);
     let wrote = room::get(room, WRITE_SET, s as usize, 0, 0, 0);
     let asked = room::get(room, TRANSACTIONS, 0, 0, 0, 0);
-    when(status != 1, 7, when(both(wrote != 0, 64 <= asked), 8, 0))
+    when(
+        status != RUNNING,
+        7,
+        when(both(wrote != 0, PLACES_MAX as u64 <= asked), 8, 0),
+    )
 }
 
 pub fn prepare(room: &[u64], n: TxNumber, p: u64, z: u64) -> u64
@@ -152,7 +169,11 @@ pub fn prepare(room: &[u64], n: TxNumber, p: u64, z: u64) -> u64
         return 3;
     }
     let t = place_of(n);
-    when(room::get(room, STATE, t, p as usize, 0, 0) != 1, 9, 0)
+    when(
+        room::get(room, STATE, t, p as usize, 0, 0) != STATE_ASKED,
+        9,
+        0,
+    )
 }
 
 pub fn commit(room: &[u64], n: TxNumber, p: u64, z: u64) -> u64
@@ -165,7 +186,7 @@ pub fn commit(room: &[u64], n: TxNumber, p: u64, z: u64) -> u64
     let t = place_of(n);
     let time = Timestamp(room::get(room, COMMIT_TIME, t, 0, 0, 0));
     let state = room::get(room, STATE, t, p as usize, 0, 0);
-    when(!both(0 < time.0, state == 2), 9, 0)
+    when(!both(0 < time.0, state == STATE_PREPARED), 9, 0)
 }
 
 pub fn decide(room: &[u64], n: TxNumber, y: u64, z: u64) -> u64
@@ -234,7 +255,7 @@ pub fn move_session(room: &[u64], s: u64, h: u64, p: u64) -> u64
         return 3;
     }
     let status = room::get(room, STATUS, s as usize, 0, 0, 0);
-    when(!server_there(room, h, p), 3, when(status != 0, 6, 0))
+    when(!server_there(room, h, p), 3, when(status != IDLE, 6, 0))
 }
 
 // a session, a key, and a hall that holds it
@@ -245,7 +266,7 @@ fn key_there(room: &[u64], s: u64, k: u64, h: u64) -> bool
     let p = k % room::get(room, PARTITIONS, 0, 0, 0, 0);
     both(
         session_there(room, s),
-        both(k < 32, server_there(room, h, p)),
+        both(k < KEYS_MAX as u64, server_there(room, h, p)),
     )
 }
 
@@ -255,30 +276,28 @@ fn ready(room: &[u64], t: usize, p: usize) -> bool
     ensures { λ r. ⌜ r ≡ (eqb (store (now (room .entry)) (State t p)) 0 || eqb (store (now (room .entry)) (State t p)) prepared) ⌝ }
 {
     let state = room::get(room, STATE, t, p, 0, 0);
-    either(state == 0, state == 2)
+    either(state == 0, state == STATE_PREPARED)
 }
 
 fn all_prepared(room: &[u64], t: usize) -> bool
     requires { ⌜ (length (now room) ≡ size) × (t < placesMax) ⌝ }
     ensures { λ r. ⌜ r ≡ allPrepared (store (now (room .entry))) t ⌝ }
 {
-    both(
-        ready(room, t, 3),
-        both(
-            ready(room, t, 2),
-            both(ready(room, t, 1), both(ready(room, t, 0), true)),
-        ),
-    )
+    let mut so_far = true;
+    for p in 0..PARTITIONS_MAX {
+        so_far = both(ready(room, t, p), so_far);
+    }
+    so_far
 }
 
-// the channel from h to g holds 8 messages, where there is one
+// the channel from h to g holds all the messages that it can, where there is one
 fn full_to(room: &[u64], h: usize, p: usize, g: usize) -> bool
     requires { ⌜ (length (now room) ≡ size) × (h < hallsMax) × (p < partitionsMax) × (g < hallsMax) ⌝ }
     ensures { λ r. ⌜ r ≡ fullTo (store (now (room .entry))) h p g ⌝ }
 {
     both(
         replication::other_holder(room, h, p, g),
-        8 <= room::get(room, WAITING, g, p, h, 0),
+        SLOTS_MAX as u64 <= room::get(room, WAITING, g, p, h, 0),
     )
 }
 
@@ -286,16 +305,11 @@ fn channel_full(room: &[u64], h: usize, p: usize) -> bool
     requires { ⌜ (length (now room) ≡ size) × (h < hallsMax) × (p < partitionsMax) ⌝ }
     ensures { λ r. ⌜ r ≡ any hallsMax (fullTo (store (now (room .entry))) h p) ⌝ }
 {
-    either(
-        full_to(room, h, p, 3),
-        either(
-            full_to(room, h, p, 2),
-            either(
-                full_to(room, h, p, 1),
-                either(full_to(room, h, p, 0), false),
-            ),
-        ),
-    )
+    let mut so_far = false;
+    for g in 0..HALLS_MAX {
+        so_far = either(full_to(room, h, p, g), so_far);
+    }
+    so_far
 }
 
 // the number given to a step, 0 where it is taken

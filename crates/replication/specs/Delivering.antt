@@ -5,7 +5,7 @@ use mathlib.Core.Path.{_≡_, refl, sym, ap, _∙_}
 use native.Mathlib.Omega.{arith}
 use lib.Dec.{eqb}
 use Rattle.book.specs.Sizes.{hallsMax, slots}
-use Rattle.book.specs.Cells.{Store, _⟨_≔_⟩, Entry, First, Waiting}
+use Rattle.book.specs.Cells.{Store, _⟨_≔_⟩, Entry, Held, First, Waiting}
 use Rattle.book.specs.Cases.{eqb-refl}
 use Rattle.book.specs.Updates.{keep, upd, commute}
 use Rattle.book.specs.ReplicationSteps.{slotOf, clockCarried, setCarried, deliver}
@@ -48,5 +48,5 @@ pub all-parts : (σ : Store) (p f g : ℕ) → f < hallsMax
     freed (heldAll (setCarried σ p f g) g p (withEntries v g p σ)) p f g ≡ deliver σ p f g
 all-parts σ p f g l =
     ap (λ (τ : Store). freed (heldAll (setCarried σ p f g) g p τ) p f g) (one-entry σ g p (clockCarried σ p f g) f l)
-    ∙ upd _ _ (commute 28 9 _ _ _ _ _ refl)
-    ∙ commute 29 9 _ _ _ _ _ refl
+    ∙ upd _ _ (commute (First 0 0 0 .kind) (Held 0 0 0 .kind) _ _ _ _ _ refl)
+    ∙ commute (Waiting 0 0 0 .kind) (Held 0 0 0 .kind) _ _ _ _ _ refl

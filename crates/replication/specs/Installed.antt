@@ -28,9 +28,9 @@ messages-past : (to ok : ℕ → Bool) (h p c m : ℕ) (σ τ : Store)
 messages-past to ok h p c m σ τ = λ x d. past d x where
   past : (d : Cell) → messagesTo to σ h p c m (installedAt ok h p τ) d ≡ installedAt ok h p (messagesTo to σ h p c m τ) d
   past d =
-      by-eq 26 (d .kind)
+      by-eq (State 0 0 .kind) (d .kind)
       (λ q e. rw (← q))
-      (λ q e. rw e (by-eq 9 (d .kind) (λ q e. rw (← q)) (λ q e. rw e)))
+      (λ q e. rw e (by-eq (Held 0 0 0 .kind) (d .kind) (λ q e. rw (← q)) (λ q e. rw e)))
 
 -- a quiet one "shall send no message"
 unless : (q : Bool) (ok : ℕ → Bool) (h p c m : ℕ) (σ τ : Store)

@@ -49,13 +49,13 @@ module _ (σ : Store) (h p c m : ℕ) where
   to d = otherHolder σ h p (d .i)
 
   abbrev clockRow : Row
-  clockRow = row4i 30 p h (nextSlot σ)
+  clockRow = row4i (ClockSent 0 0 0 0 .kind) p h (nextSlot σ)
 
   abbrev setRow : Row
-  setRow = row4i 31 p h (nextSlot σ)
+  setRow = row4i (Carries 0 0 0 0 .kind) p h (nextSlot σ)
 
   abbrev countRow : Row
-  countRow = row3i 29 p h
+  countRow = row3i (Waiting 0 0 0 .kind) p h
 
   abbrev oneMore : Cell → ℕ
   oneMore d = suc (σ (Waiting (d .i) (d .j) (d .k)))
@@ -100,9 +100,9 @@ module _ (σ : Store) (h p c m : ℕ) where
       = puts setRow to (λ d. m) n (counts n σ) e in
       let z : counts n σ ⟨ Waiting n p h ≔ suc (σ (Waiting n p h)) ⟩ ≡ counts (n + 1) σ
       = puts countRow to oneMore n σ e in
-      upd _ _ (upd _ _ x ∙ commute 31 30 _ _ _ _ _ refl ∙ ap (clocks (n + 1)) y)
-      ∙ commute 29 30 _ _ _ _ _ refl
-      ∙ ap (clocks (n + 1)) (commute 29 31 _ _ _ _ _ refl ∙ ap (sets (n + 1)) z)
+      upd _ _ (upd _ _ x ∙ commute (Carries 0 0 0 0 .kind) (ClockSent 0 0 0 0 .kind) _ _ _ _ _ refl ∙ ap (clocks (n + 1)) y)
+      ∙ commute (Waiting 0 0 0 .kind) (ClockSent 0 0 0 0 .kind) _ _ _ _ _ refl
+      ∙ ap (clocks (n + 1)) (commute (Waiting 0 0 0 .kind) (Carries 0 0 0 0 .kind) _ _ _ _ _ refl ∙ ap (sets (n + 1)) z)
 
   -- a round that sends nothing
   skipped : (n : ℕ) → otherHolder σ h p n ≡ false → sentBelow n ≡ sentBelow (n + 1)

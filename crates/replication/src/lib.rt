@@ -19,6 +19,12 @@ ghost use Rattle.replication.specs.Installed.{outcomeOf};
 ghost use Rattle.replication.specs.Delivering.{carried, freed};
 use book::Answer;
 use book::Clock;
+use book::HALLS_MAX;
+use book::PLACES_MAX;
+use book::SLOTS_MAX;
+use book::STATE_INSTALLED;
+use book::STATE_PREPARED;
+use book::STATE_WAITING;
 use book::Timestamp;
 use room::CARRIES;
 use room::CLOCK_SENT;
@@ -33,6 +39,8 @@ use times::none;
 use vectors::updated;
 use vectors::vector_of;
 
+const SLOTS: u64 = SLOTS_MAX as u64;
+
 // Whether the transaction at place t is in that state for p, and h is its writing hall.
 fn is_at(room: &[u64], h: usize, p: usize, t: usize, state: u64) -> bool
     requires { ⌜ (length (now room) ≡ size) × (p < partitionsMax) × (t < placesMax) × Coordinated (store (now room)) ⌝ }
@@ -46,7 +54,7 @@ fn with_prepared(room: &[u64], h: usize, p: usize, t: usize, l: Lowest) -> Lowes
     ensures { λ r. ⌜ r ≡ joined l (preparedAt (store (now (room .entry))) h p t) (store (now (room .entry)) (Proposed t p)) ⌝ }
 {
     let x = Timestamp(room::get(room, PROPOSED, t, p, 0, 0));
-    join(l, is_at(room, h, p, t, 2), x)
+    join(l, is_at(room, h, p, t, STATE_PREPARED), x)
 }
 
 // The lowest proposed time of those that are prepared at server (h, p), if there are any.
@@ -55,7 +63,7 @@ fn lowest_prepared(room: &[u64], h: usize, p: usize) -> Lowest
     ensures { λ r. ⌜ r ≡ lowestProposed (store (now (room .entry))) h p placesMax ⌝ }
 {
     let mut l = none();
-    for t in 0..64 {
+    for t in 0..PLACES_MAX {
         l = with_prepared(room, h, p, t, l);
     }
     l
@@ -83,7 +91,7 @@ fn is_due(room: &[u64], h: usize, p: usize, version: Timestamp, t: usize) -> boo
     requires { ⌜ (length (now room) ≡ size) × (p < partitionsMax) × (t < placesMax) × Coordinated (store (now room)) ⌝ }
     ensures { λ r. ⌜ r ≡ due (store (now (room .entry))) h p (version .0) t ⌝ }
 {
-    is_at(room, h, p, t, 3) && room::get(room, COMMIT_TIME, t, 0, 0, 0) <= version.0
+    is_at(room, h, p, t, STATE_WAITING) && room::get(room, COMMIT_TIME, t, 0, 0, 0) <= version.0
 }
 
 fn with_due(room: &[u64], h: usize, p: usize, version: Timestamp, t: usize, set: u64) -> u64
@@ -103,7 +111,7 @@ fn due_set(room: &[u64], h: usize, p: usize, version: Timestamp) -> u64
     ensures { λ r. ⌜ r ≡ setOf placesMax (due (store (now (room .entry))) h p (version .0)) ⌝ }
 {
     let mut set = 0;
-    for t in 0..64 {
+    for t in 0..PLACES_MAX {
         set = with_due(room, h, p, version, t, set);
     }
     set
@@ -152,8 +160,17 @@ fn mark_installed(room: &mut [u64], p: usize, set: u64)
     requires { ⌜ (length (now room) ≡ size) × (p < partitionsMax) ⌝ }
     ensures { λ r. ⌜ (length (now (room .exit)) ≡ size) × (store (now (room .exit)) ≡ marked p set (store (now (room .entry)))) ⌝ }
 {
-    for t in 0..64 {
-        room::put_if(room, masks::has(set, t as u64), STATE, t, p, 0, 0, 4);
+    for t in 0..PLACES_MAX {
+        room::put_if(
+            room,
+            masks::has(set, t as u64),
+            STATE,
+            t,
+            p,
+            0,
+            0,
+            STATE_INSTALLED,
+        );
     }
 }
 
@@ -169,7 +186,7 @@ fn send(room: &mut [u64], h: usize, p: usize, g: usize, m: Message)
 {
     let first = room::get(room, FIRST, g, p, h, 0);
     let waiting = room::get(room, WAITING, g, p, h, 0);
-    let slot = ((first + waiting) % 8) as usize;
+    let slot = ((first + waiting) % SLOTS) as usize;
     room::put(room, CLOCK_SENT, g, p, h, slot, m.clock.0);
     room::put(room, CARRIES, g, p, h, slot, m.set);
     room::put(room, WAITING, g, p, h, 0, waiting + 1);
@@ -196,7 +213,7 @@ fn send_to_all(room: &mut [u64], h: usize, p: usize, m: Message)
     requires { ⌜ (length (now room) ≡ size) × (h < hallsMax) × (p < partitionsMax) × Outgoing (store (now room)) h p ⌝ }
     ensures { λ r. ⌜ (length (now (room .exit)) ≡ size) × (store (now (room .exit)) ≡ messages (store (now (room .entry))) h p (m .clock .0) (m .set) (store (now (room .entry)))) ⌝ }
 {
-    for g in 0..4 {
+    for g in 0..HALLS_MAX {
         send_to(room, h, p, g, m);
     }
 }
@@ -235,7 +252,7 @@ fn free_place(room: &mut [u64], p: usize, f: usize, g: usize)
 {
     let first = room::get(room, FIRST, g, p, f, 0);
     let waiting = room::get(room, WAITING, g, p, f, 0);
-    room::put(room, FIRST, g, p, f, 0, (first + 1) % 8);
+    room::put(room, FIRST, g, p, f, 0, (first + 1) % SLOTS);
     room::put(room, WAITING, g, p, f, 0, waiting - 1);
 }
 

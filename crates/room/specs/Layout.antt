@@ -7,12 +7,57 @@ use lib.ListN.{getD}
 use Rattle.book.specs.Sizes.{hallsMax, partitionsMax, sessionsMax, keys, placesMax, slots}
 use Rattle.book.specs.Cells.{Cell, cell, Store}
 
--- the words of a room
-abbrev pub size : ℕ
-size = 7304
-
 abbrev pub kinds : ℕ
 kinds = 34
+
+-- the words of the setup, of a server, a session, a transaction and a channel
+abbrev pub setupWords : ℕ
+setupWords = 4 + hallsMax
+
+abbrev pub serverWords : ℕ
+serverWords = 3 + hallsMax + placesMax
+
+abbrev pub sessionWords : ℕ
+sessionWords = 7 + 4 * keys
+
+abbrev pub transactionWords : ℕ
+transactionWords = 4 + keys + 2 * partitionsMax
+
+abbrev pub channelWords : ℕ
+channelWords = 2 + 2 * slots
+
+-- the words of a hall's servers, of the channels to a server, and of those to a hall's servers
+abbrev pub hallWords : ℕ
+hallWords = partitionsMax * serverWords
+
+abbrev pub inboxWords : ℕ
+inboxWords = hallsMax * channelWords
+
+abbrev pub hallInboxWords : ℕ
+hallInboxWords = partitionsMax * inboxWords
+
+-- the first word of the servers, the sessions, the transactions, the channels and the notes
+abbrev pub serversAt : ℕ
+serversAt = setupWords
+
+abbrev pub sessionsAt : ℕ
+sessionsAt = serversAt + hallsMax * hallWords
+
+abbrev pub transactionsAt : ℕ
+transactionsAt = sessionsAt + sessionsMax * sessionWords
+
+abbrev pub channelsAt : ℕ
+channelsAt = transactionsAt + placesMax * transactionWords
+
+abbrev pub notesAt : ℕ
+notesAt = channelsAt + hallsMax * hallInboxWords
+
+abbrev pub sharedAt : ℕ
+sharedAt = notesAt + hallsMax * partitionsMax
+
+-- the words of a room
+abbrev pub size : ℕ
+size = sharedAt + hallsMax * hallsMax
 
 -- The kinds come in blocks: 0 to 4 the setup's, 5 to 9 a server's, 10 to 20 a session's, 21 to 27 a transaction's, 28 to 31 a channel's,
 -- 32 and 33 the notes.
@@ -21,24 +66,32 @@ abbrev pub base : ℕ → ℕ
 base n =
     getD
     (0 ∷ 1 ∷ 2 ∷ 3 ∷ 4
-    ∷ 8 ∷ 9 ∷ 10 ∷ 11 ∷ 15
-    ∷ 1144 ∷ 1145 ∷ 1146 ∷ 1147 ∷ 1148 ∷ 1149 ∷ 1150 ∷ 1151 ∷ 1183 ∷ 1215 ∷ 1247
-    ∷ 3304 ∷ 3305 ∷ 3306 ∷ 3307 ∷ 3308 ∷ 3340 ∷ 3344
-    ∷ 6120 ∷ 6121 ∷ 6122 ∷ 6130
-    ∷ 7272 ∷ 7288 ∷ [])
+    ∷ serversAt ∷ (serversAt + 1) ∷ (serversAt + 2) ∷ (serversAt + 3) ∷ (serversAt + 3 + hallsMax)
+    ∷ sessionsAt ∷ (sessionsAt + 1) ∷ (sessionsAt + 2) ∷ (sessionsAt + 3) ∷ (sessionsAt + 4) ∷ (sessionsAt + 5) ∷ (sessionsAt + 6)
+    ∷ (sessionsAt + 7) ∷ (sessionsAt + 7 + keys) ∷ (sessionsAt + 7 + 2 * keys) ∷ (sessionsAt + 7 + 3 * keys)
+    ∷ transactionsAt ∷ (transactionsAt + 1) ∷ (transactionsAt + 2) ∷ (transactionsAt + 3) ∷ (transactionsAt + 4)
+    ∷ (transactionsAt + 4 + keys) ∷ (transactionsAt + 4 + keys + partitionsMax)
+    ∷ channelsAt ∷ (channelsAt + 1) ∷ (channelsAt + 2) ∷ (channelsAt + 2 + slots)
+    ∷ notesAt ∷ sharedAt ∷ [])
     n 0
 
 -- the words from one cell to the next by its first, second and third index; by the fourth it is 1
 abbrev pub stepI : ℕ → ℕ
 stepI n =
     cond (ltb n 5) 1
-    (cond (ltb n 10) 284 (cond (ltb n 21) 135 (cond (ltb n 28) 44 (cond (ltb n 32) 288 4))))
+    (cond (ltb n 10) hallWords
+    (cond (ltb n 21) sessionWords
+    (cond (ltb n 28) transactionWords
+    (cond (ltb n 32) hallInboxWords
+    (cond (ltb n 33) partitionsMax hallsMax)))))
 
 abbrev pub stepJ : ℕ → ℕ
-stepJ n = cond (ltb n 5) 1 (cond (ltb n 10) 71 (cond (ltb n 28) 1 (cond (ltb n 32) 72 1)))
+stepJ n =
+    cond (ltb n 5) 1
+    (cond (ltb n 10) serverWords (cond (ltb n 28) 1 (cond (ltb n 32) inboxWords 1)))
 
 abbrev pub stepK : ℕ → ℕ
-stepK n = cond (ltb n 28) 1 (cond (ltb n 32) 18 1)
+stepK n = cond (ltb n 28) 1 (cond (ltb n 32) channelWords 1)
 
 -- how many there are of each index
 abbrev pub countI : ℕ → ℕ
@@ -102,12 +155,12 @@ kindIn a step n w = lastKind n (a + (w - a) % step)
 -- the kind that has the word w: block by block
 abbrev pub kindAt : ℕ → ℕ
 kindAt w =
-    cond (ltb w 8) (kindIn 0 8 5 w)
-    (cond (ltb w 1144) (kindIn 8 71 10 w)
-    (cond (ltb w 3304) (kindIn 1144 135 21 w)
-    (cond (ltb w 6120) (kindIn 3304 44 28 w)
-    (cond (ltb w 7272) (kindIn 6120 18 32 w)
-    (kindIn 7272 32 kinds w)))))
+    cond (ltb w serversAt) (kindIn 0 setupWords 5 w)
+    (cond (ltb w sessionsAt) (kindIn serversAt serverWords 10 w)
+    (cond (ltb w transactionsAt) (kindIn sessionsAt sessionWords 21 w)
+    (cond (ltb w channelsAt) (kindIn transactionsAt transactionWords 28 w)
+    (cond (ltb w notesAt) (kindIn channelsAt channelWords 32 w)
+    (kindIn notesAt (size - notesAt) kinds w)))))
 
 -- the cell of a word
 unfoldable pub cellAt : ℕ → Cell
@@ -120,7 +173,7 @@ cellAt w =
 
 -- the words of a server's stretch, and the first word of server (h, p)'s
 abbrev pub stretch : ℕ
-stretch = 71
+stretch = serverWords
 
 abbrev pub start : ℕ → ℕ → ℕ
-start h p = 8 + stretch * (partitionsMax * h + p)
+start h p = serversAt + stretch * (partitionsMax * h + p)

@@ -12,7 +12,7 @@ use borrow.Author.Tests.{eqb-true, ltb-true, ltb-false, leb-true, leb-false, lt-
 use borrow.Rule.Slice.PartMut.{putMid, midOf, postOf}
 use Rattle.book.specs.declared.Vector.{Vector}
 use Rattle.book.specs.Sizes.{hallsMax, partitionsMax, placesMax}
-use Rattle.book.specs.Cells.{Cell, cell, Store, _⟨_≔_⟩, each3, Entry, Held}
+use Rattle.book.specs.Cells.{Cell, cell, Store, _⟨_≔_⟩, each3, Reading, Hybrid, Stable, Entry, Held}
 use Rattle.book.specs.Cases.{by-test, by-eq, and-true}
 use Rattle.book.specs.Updates.{is, is-own, one-cell, bulk}
 use Rattle.book.specs.Folds.{all-at}
@@ -47,17 +47,28 @@ unfolding own
 own-i h p c o = rw (within c (o .cell), le-leb (start h p) (at c) (o .low), lt-ltb (at c) (start h p + stretch) (o .high))
 
 -- what holds of the five kinds of a server
-pub five : (P : ℕ → Type 0) → P 5 → P 6 → P 7 → P 8 → P 9 → (n : ℕ) → 5 ≤ n → n ≤ 9 → P n
+pub five : (P : ℕ → Type 0)
+    → P (Reading 0 0 .kind)
+    → P (Hybrid 0 0 .kind)
+    → P (Stable 0 0 .kind)
+    → P (Entry 0 0 0 .kind)
+    → P (Held 0 0 0 .kind)
+    → (n : ℕ)
+    → Reading 0 0 .kind ≤ n
+    → n ≤ Held 0 0 0 .kind
+    → P n
 five P a b c d e n lo hi =
-    by-eq n 5
+    by-eq n (Reading 0 0 .kind)
     (λ q _. rw q a)
-    (λ n5 _. by-eq n 6
+    (λ not-a _. by-eq n (Hybrid 0 0 .kind)
     (λ q _. rw q b)
-    (λ n6 _. by-eq n 7
+    (λ not-b _. by-eq n (Stable 0 0 .kind)
     (λ q _. rw q c)
-    (λ n7 _. by-eq n 8 (λ q _. rw q d) (λ n8 _. let q : n ≡ 9 = omega arith in rw q e))))
+    (λ not-c _. by-eq n (Entry 0 0 0 .kind)
+    (λ q _. rw q d)
+    (λ not-d _. let q : n ≡ Held 0 0 0 .kind = omega arith in rw q e))))
 
-server-own : (c : Cell) → Within c → 5 ≤ c .kind → c .kind ≤ 9 → Own (c .i) (c .j) c
+server-own : (c : Cell) → Within c → Reading 0 0 .kind ≤ c .kind → c .kind ≤ Held 0 0 0 .kind → Own (c .i) (c .j) c
 server-own c w lo hi =
     five (λ n. let d = cell n (c .i) (c .j) (c .k) (c .l) in Within d → Own (c .i) (c .j) d)
     (λ w. omega arith) (λ w. omega arith) (λ w. omega arith) (λ w. omega arith) (λ w. omega arith)
@@ -72,8 +83,8 @@ stretch-cells h p c hh hp v =
     let f = all-at stretch _ (all-at partitionsMax _ (all-at hallsMax _ each-stretch h hh) p hp) (at c - start h p) (omega (arith, o .low, o .high)) in
     e ∙ sym (rw (q, cell-again c (o .cell)) at f))
     (λ e. by-test (ofServer h p c)
-    (λ f. let a = and-true (leb 5 (c .kind)) _ f in
-    let b = and-true (leb (c .kind) 9) _ (a .1) in
+    (λ f. let a = and-true (leb (Reading 0 0 .kind) (c .kind)) _ f in
+    let b = and-true (leb (c .kind) (Held 0 0 0 .kind)) _ (a .1) in
     let d = and-true (eqb h (c .i)) _ (b .1) in
     let o = own-i (c .i) (c .j) c (server-own c (valid-within c v) (leb-true _ _ (a .0)) (leb-true _ _ (b .0))) in
     rw (eqb-true h (c .i) (d .0), eqb-true p (c .j) (d .1)) o ∙ sym f)
@@ -206,7 +217,7 @@ abbrev pub heldAll : ℕ → ℕ → ℕ → Store → Store
 heldAll m h p σ = each3 Held (λ a q t. eqb h a && (eqb p q && (ltb t placesMax && member m t))) (λ a q t. 1) σ
 
 pub keeps-held : (m h p : ℕ) → h < hallsMax → p < partitionsMax → Keeps h p (heldAll m h p)
-keeps-held m h p hh hp = keeps-row h p (row3k 9 h p) (λ d. member m (d .k)) (λ d. 1) placesMax (λ t l. omega arith)
+keeps-held m h p hh hp = keeps-row h p (row3k (Held 0 0 0 .kind) h p) (λ d. member m (d .k)) (λ d. 1) placesMax (λ t l. omega arith)
 
 -- what a version vector says of hall g
 abbrev pub entryOf : Vector → ℕ → ℕ

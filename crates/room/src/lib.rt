@@ -4,6 +4,12 @@ ghost use Prim.Native.Nat.{_<_};
 ghost use lib.ListN.{length};
 ghost use Rattle.book.specs.Cells.{cell, _⟨_≔_⟩};
 ghost use Rattle.room.specs.Layout.{size, stepI, stepJ, stepK, at, Within, store};
+use book::HALLS_MAX;
+use book::KEYS_MAX;
+use book::PARTITIONS_MAX;
+use book::PLACES_MAX;
+use book::SESSIONS_MAX;
+use book::SLOTS_MAX;
 
 pub mod stretch;
 
@@ -76,45 +82,78 @@ pub const NOTE: usize = 32;
 
 pub const SHARED: usize = 33;
 
+const KINDS: usize = 34;
+
+// The words of the setup, of a server, a session, a transaction and a channel.
+const SETUP_WORDS: usize = 4 + HALLS_MAX;
+
+const SERVER_WORDS: usize = 3 + HALLS_MAX + PLACES_MAX;
+
+const SESSION_WORDS: usize = 7 + 4 * KEYS_MAX;
+
+const TRANSACTION_WORDS: usize = 4 + KEYS_MAX + 2 * PARTITIONS_MAX;
+
+const CHANNEL_WORDS: usize = 2 + 2 * SLOTS_MAX;
+
+// The words of a hall's servers, of the channels to a server, and of those to a hall's servers.
+const HALL_WORDS: usize = PARTITIONS_MAX * SERVER_WORDS;
+
+const INBOX_WORDS: usize = HALLS_MAX * CHANNEL_WORDS;
+
+const HALL_INBOX_WORDS: usize = PARTITIONS_MAX * INBOX_WORDS;
+
+// The first word of the servers, the sessions, the transactions, the channels and the notes.
+const SERVERS_AT: usize = SETUP_WORDS;
+
+const SESSIONS_AT: usize = SERVERS_AT + HALLS_MAX * HALL_WORDS;
+
+const TRANSACTIONS_AT: usize = SESSIONS_AT + SESSIONS_MAX * SESSION_WORDS;
+
+const CHANNELS_AT: usize = TRANSACTIONS_AT + PLACES_MAX * TRANSACTION_WORDS;
+
+const NOTES_AT: usize = CHANNELS_AT + HALLS_MAX * HALL_INBOX_WORDS;
+
+const SHARED_AT: usize = NOTES_AT + HALLS_MAX * PARTITIONS_MAX;
+
 // The words of a room.
-pub const SIZE: usize = 7304;
+pub const SIZE: usize = SHARED_AT + HALLS_MAX * HALLS_MAX;
 
 // The word of a kind's first cell.
-const BASE: [usize; 34] = [
+const BASE: [usize; KINDS] = [
     0,
     1,
     2,
     3,
     4,
-    8,
-    9,
-    10,
-    11,
-    15,
-    1144,
-    1145,
-    1146,
-    1147,
-    1148,
-    1149,
-    1150,
-    1151,
-    1183,
-    1215,
-    1247,
-    3304,
-    3305,
-    3306,
-    3307,
-    3308,
-    3340,
-    3344,
-    6120,
-    6121,
-    6122,
-    6130,
-    7272,
-    7288,
+    SERVERS_AT,
+    SERVERS_AT + 1,
+    SERVERS_AT + 2,
+    SERVERS_AT + 3,
+    SERVERS_AT + 3 + HALLS_MAX,
+    SESSIONS_AT,
+    SESSIONS_AT + 1,
+    SESSIONS_AT + 2,
+    SESSIONS_AT + 3,
+    SESSIONS_AT + 4,
+    SESSIONS_AT + 5,
+    SESSIONS_AT + 6,
+    SESSIONS_AT + 7,
+    SESSIONS_AT + 7 + KEYS_MAX,
+    SESSIONS_AT + 7 + 2 * KEYS_MAX,
+    SESSIONS_AT + 7 + 3 * KEYS_MAX,
+    TRANSACTIONS_AT,
+    TRANSACTIONS_AT + 1,
+    TRANSACTIONS_AT + 2,
+    TRANSACTIONS_AT + 3,
+    TRANSACTIONS_AT + 4,
+    TRANSACTIONS_AT + 4 + KEYS_MAX,
+    TRANSACTIONS_AT + 4 + KEYS_MAX + PARTITIONS_MAX,
+    CHANNELS_AT,
+    CHANNELS_AT + 1,
+    CHANNELS_AT + 2,
+    CHANNELS_AT + 2 + SLOTS_MAX,
+    NOTES_AT,
+    SHARED_AT,
 ];
 
 // The words from one cell to the next by its first, second and third index.
@@ -124,15 +163,17 @@ fn step_i(kind: usize) -> usize
     if kind < 5 {
         1
     } else if kind < 10 {
-        284
+        HALL_WORDS
     } else if kind < 21 {
-        135
+        SESSION_WORDS
     } else if kind < 28 {
-        44
+        TRANSACTION_WORDS
     } else if kind < 32 {
-        288
+        HALL_INBOX_WORDS
+    } else if kind < 33 {
+        PARTITIONS_MAX
     } else {
-        4
+        HALLS_MAX
     }
 }
 
@@ -142,11 +183,11 @@ fn step_j(kind: usize) -> usize
     if kind < 5 {
         1
     } else if kind < 10 {
-        71
+        SERVER_WORDS
     } else if kind < 28 {
         1
     } else if kind < 32 {
-        72
+        INBOX_WORDS
     } else {
         1
     }
@@ -158,7 +199,7 @@ fn step_k(kind: usize) -> usize
     if kind < 28 {
         1
     } else if kind < 32 {
-        18
+        CHANNEL_WORDS
     } else {
         1
     }

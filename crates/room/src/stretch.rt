@@ -7,32 +7,44 @@ ghost use Rattle.book.specs.Sizes.{hallsMax, partitionsMax, placesMax};
 ghost use Rattle.book.specs.Cells.{Hybrid, Entry, Held, _⟨_≔_⟩};
 ghost use Rattle.room.specs.Layout.{size, store, stretch, start};
 ghost use Rattle.room.specs.Stretch.{Changed, heldAll, withEntries};
+use crate::BASE;
+use crate::ENTRY;
+use crate::HELD;
+use crate::HYBRID;
+use crate::SERVER_WORDS;
+use crate::SERVERS_AT;
+use book::PARTITIONS_MAX;
+use book::PLACES_MAX;
 use book::Timestamp;
 use book::Vector;
 
-// Its words.
-const STRETCH: usize = 71;
+// Where its hybrid clock, its entries and what it holds stand in it.
+const CLOCK: usize = BASE[HYBRID] - SERVERS_AT;
+
+const ENTRIES: usize = BASE[ENTRY] - SERVERS_AT;
+
+const HELD_FROM: usize = BASE[HELD] - SERVERS_AT;
 
 // The first word of server (h, p)'s stretch.
 fn first_word(h: usize, p: usize) -> usize
     requires { ⌜ (h < hallsMax) × (p < partitionsMax) ⌝ }
     ensures { λ r. ⌜ r ≡ start h p ⌝ }
 {
-    8 + STRETCH * (4 * h + p)
+    SERVERS_AT + SERVER_WORDS * (PARTITIONS_MAX * h + p)
 }
 
 fn set_hybrid(part: &mut [u64], x: Timestamp)
     requires { ⌜ length (now part) ≡ stretch ⌝ }
     ensures { λ r. ⌜ Changed (λ h p σ. σ ⟨ Hybrid h p ≔ x .0 ⟩) (now (part .entry)) (now (part .exit)) ⌝ }
 {
-    part[1] = x.0;
+    part[CLOCK] = x.0;
 }
 
 fn set_entry(part: &mut [u64], g: usize, x: Timestamp)
     requires { ⌜ (length (now part) ≡ stretch) × (g < hallsMax) ⌝ }
     ensures { λ r. ⌜ Changed (λ h p σ. σ ⟨ Entry h p g ≔ x .0 ⟩) (now (part .entry)) (now (part .exit)) ⌝ }
 {
-    part[3 + g] = x.0;
+    part[ENTRIES + g] = x.0;
 }
 
 fn set_entries(part: &mut [u64], v: Vector)
@@ -51,7 +63,7 @@ fn hold_if(part: &mut [u64], test: bool, t: usize)
     ensures { λ r. ⌜ Changed (λ h p σ. σ ⟨ Held h p t ≔ cond test 1 (σ (Held h p t)) ⟩) (now (part .entry)) (now (part .exit)) ⌝ }
 {
     if test {
-        part[7 + t] = 1;
+        part[HELD_FROM + t] = 1;
     }
 }
 
@@ -59,7 +71,7 @@ fn hold_all(part: &mut [u64], set: u64)
     requires { ⌜ length (now part) ≡ stretch ⌝ }
     ensures { λ r. ⌜ Changed (heldAll set) (now (part .entry)) (now (part .exit)) ⌝ }
 {
-    for t in 0..64 {
+    for t in 0..PLACES_MAX {
         hold_if(part, masks::has(set, t as u64), t);
     }
 }
@@ -96,7 +108,7 @@ pub fn install(
     ensures { λ r. ⌜ (length (now (room .exit)) ≡ size) × (store (now (room .exit)) ≡ heldAll set h p (store (now (room .entry)) ⟨ Hybrid h p ≔ hybrid .0 ⟩ ⟨ Entry h p h ≔ version .0 ⟩)) ⌝ }
 {
     let a = first_word(h, p);
-    let e = a + STRETCH;
+    let e = a + SERVER_WORDS;
     install_at(&mut room[a..e], h, hybrid, version, set);
 }
 
@@ -105,6 +117,6 @@ pub fn deliver(room: &mut [u64], h: usize, p: usize, v: Vector, set: u64)
     ensures { λ r. ⌜ (length (now (room .exit)) ≡ size) × (store (now (room .exit)) ≡ heldAll set h p (withEntries v h p (store (now (room .entry))))) ⌝ }
 {
     let a = first_word(h, p);
-    let e = a + STRETCH;
+    let e = a + SERVER_WORDS;
     deliver_at(&mut room[a..e], v, set);
 }

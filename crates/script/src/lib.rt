@@ -11,6 +11,8 @@ ghost use Rattle.script.specs.Printout.{lineOf, stepsFrom, countedFrom, 
 ghost use Rattle.script.specs.Length.{capacity};
 ghost use Rattle.script.specs.Run.{Done, Ran};
 use book::Answer;
+use book::HALLS_MAX;
+use book::SESSIONS_MAX;
 use room::SIZE;
 use scan::Cursor;
 use scan::Four;
@@ -106,8 +108,14 @@ fn sessions(text: &[u8], masks: &[u64], room: &mut [u64], out: &mut [u8], from: 
     requires { ⌜ (length (now room) ≡ size) × Room (now out) 0 (sessionsFrom (now masks) (now text) from (store (now room)) .bytes) ⌝ }
     ensures { λ r. ⌜ Done (sessionsFrom (now (masks .entry)) (now (text .entry)) from (store (now (room .entry)))) 0 (now (out .entry)) (now (out .exit)) r (now (room .exit)) ⌝ }
 {
-    let mut homes = [0u64; 32];
-    match scan::read_section(text, Cursor { at: from }, 16, 2, &mut homes) {
+    let mut homes = [0u64; 2 * SESSIONS_MAX];
+    match scan::read_section(
+        text,
+        Cursor { at: from },
+        SESSIONS_MAX as u64,
+        2,
+        &mut homes,
+    ) {
         Section::Bad(k) => ink::put_script(out, 0, k),
         Section::Outside => ink::put_line(out, 0, 0, 2, 0, 0),
         Section::Whole(n, next) => {
@@ -122,8 +130,8 @@ fn halls(text: &[u8], room: &mut [u64], out: &mut [u8]) -> usize
     requires { ⌜ (length (now room) ≡ size) × Room (now out) 0 (hallsFrom (now text) (store (now room)) .bytes) ⌝ }
     ensures { λ r. ⌜ Done (hallsFrom (now (text .entry)) (store (now (room .entry)))) 0 (now (out .entry)) (now (out .exit)) r (now (room .exit)) ⌝ }
 {
-    let mut masks = [0u64; 4];
-    match scan::read_section(text, Cursor { at: 0 }, 4, 1, &mut masks) {
+    let mut masks = [0u64; HALLS_MAX];
+    match scan::read_section(text, Cursor { at: 0 }, HALLS_MAX as u64, 1, &mut masks) {
         Section::Bad(k) => ink::put_script(out, 0, k),
         Section::Outside => ink::put_line(out, 0, 0, 2, 0, 0),
         Section::Whole(n, next) => {

@@ -10,6 +10,7 @@ ghost use Rattle.book.specs.Servers.{holds as isServer, placeOf, writer};
 ghost use Rattle.room.specs.Layout.{size, store};
 ghost use Rattle.servers.specs.Turns.{hallAfter};
 ghost use Rattle.servers.specs.Numbers.{Numbered};
+use book::HALLS_MAX;
 use book::TxNumber;
 use room::FROM;
 use room::HALLS;
@@ -21,7 +22,7 @@ pub fn holds(room: &[u64], h: usize, p: usize) -> bool
     requires { ⌜ length (now room) ≡ size ⌝ }
     ensures { λ r. ⌜ r ≡ isServer (store (now (room .entry))) h p ⌝ }
 {
-    if 4 <= h {
+    if HALLS_MAX <= h {
         return false;
     }
     let halls = room::get(room, HALLS, 0, 0, 0, 0);
@@ -48,7 +49,7 @@ pub fn holders(room: &[u64], p: usize) -> u64
     ensures { λ r. ⌜ r ≡ setOf hallsMax (λ h. isServer (store (now (room .entry))) h p) ⌝ }
 {
     let mut m = 0;
-    for h in 0..4 {
+    for h in 0..HALLS_MAX {
         m = with_holder(room, p, h, m);
     }
     m

@@ -8,7 +8,7 @@ use lib.Dec.{ltb}
 use lib.ListN.{length, getD}
 use borrow.Author.Tests.{ltb-true}
 use Rattle.book.specs.Sizes.{hallsMax, sessionsMax}
-use Rattle.book.specs.Cells.{Cell, cell, Store, _⟨_≔_⟩, each1, Halls, Partitions, Sessions}
+use Rattle.book.specs.Cells.{Cell, cell, Store, _⟨_≔_⟩, each1, Halls, Partitions, Sessions, Mask, HomeHall, HomePartition}
 use Rattle.book.specs.Cases.{by-test, and-true}
 use Rattle.book.specs.Updates.{is, one-cell}
 use Rattle.book.specs.Setup.{partitionsHeld, numbersSet, firstStore}
@@ -40,7 +40,7 @@ pub first-laid : (masks homes : List ℕ) → store (lay (firstStore masks homes
 first-laid masks homes =
     store-lay (firstStore masks homes)
     (put-inside Partitions (partitionsHeld (numbersSet masks homes)) (omega arith, omega arith, omega arith, omega arith, omega arith)
-    (row-inside 4 hallsMax (λ h. getD masks h 0) (λ i l. (omega arith, omega arith, omega arith, omega arith, omega arith))
-    (row-inside 10 sessionsMax (λ s. getD homes (2 * s) 0) (λ i l. (omega arith, omega arith, omega arith, omega arith, omega arith))
-    (row-inside 11 sessionsMax (λ s. getD homes (2 * s + 1) 0) (λ i l. (omega arith, omega arith, omega arith, omega arith, omega arith))
+    (row-inside (Mask 0 .kind) hallsMax (λ h. getD masks h 0) (λ i l. (omega arith, omega arith, omega arith, omega arith, omega arith))
+    (row-inside (HomeHall 0 .kind) sessionsMax (λ s. getD homes (2 * s) 0) (λ i l. (omega arith, omega arith, omega arith, omega arith, omega arith))
+    (row-inside (HomePartition 0 .kind) sessionsMax (λ s. getD homes (2 * s + 1) 0) (λ i l. (omega arith, omega arith, omega arith, omega arith, omega arith))
     (put-inside Sessions (length homes / 2) (omega arith, omega arith, omega arith, omega arith, omega arith) (put-inside Halls (length masks) (omega arith, omega arith, omega arith, omega arith, omega arith) (λ d e. refl)))))))

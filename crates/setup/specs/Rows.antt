@@ -8,7 +8,7 @@ use lib.Dec.{ltb}
 use lib.ListN.{length, getD, replicate, getD-replicate}
 use borrow.Author.Tests.{ltb-true, lt-ltb}
 use Rattle.book.specs.Sizes.{hallsMax, sessionsMax}
-use Rattle.book.specs.Cells.{Cell, cell, Store, _⟨_≔_⟩, each1, Halls, Sessions, Mask, HomeHall}
+use Rattle.book.specs.Cells.{Cell, cell, Store, _⟨_≔_⟩, each1, Halls, Sessions, Mask, HomeHall, HomePartition}
 use Rattle.book.specs.Cases.{by-test}
 use Rattle.book.specs.Setup.{numbersSet}
 use Rattle.room.specs.Bulk.{upTo, row1, begin, puts, done}
@@ -42,13 +42,13 @@ module _ (kind count : ℕ) (numbers : List ℕ) (step start : ℕ) (σ : Store)
 
 -- each mask in its turn; each home's first number
 pub masks-row : (masks : List ℕ) (σ : Store)
-    → row 4 hallsMax masks 1 0 σ ≡ each1 Mask (λ h. ltb h hallsMax) (λ h. getD masks h 0) σ
+    → row (Mask 0 .kind) hallsMax masks 1 0 σ ≡ each1 Mask (λ h. ltb h hallsMax) (λ h. getD masks h 0) σ
 masks-row masks σ =
     let e : (h : ℕ) → 1 * h + 0 ≡ h = λ h. omega arith in
     λ x. each1 Mask (λ h. ltb h hallsMax) (λ h. getD masks (e h x) 0) σ
 
 pub halls-row : (homes : List ℕ) (σ : Store)
-    → row 10 sessionsMax homes 2 0 σ ≡ each1 HomeHall (λ s. ltb s sessionsMax) (λ s. getD homes (2 * s) 0) σ
+    → row (HomeHall 0 .kind) sessionsMax homes 2 0 σ ≡ each1 HomeHall (λ s. ltb s sessionsMax) (λ s. getD homes (2 * s) 0) σ
 halls-row homes σ =
     let e : (s : ℕ) → 2 * s + 0 ≡ 2 * s = λ s. omega arith in
     λ x. each1 HomeHall (λ s. ltb s sessionsMax) (λ s. getD homes (e s x) 0) σ
@@ -56,14 +56,14 @@ halls-row homes σ =
 -- the two counts, and the three rows one after the other: the numbers of a setup
 pub rows-numbers : (masks homes : List ℕ) {σ τ₁ τ₂ τ₃ : Store}
     → σ ≡ ((λ d. 0) ⟨ Halls ≔ length masks ⟩) ⟨ Sessions ≔ length homes / 2 ⟩
-    → τ₁ ≡ row 11 sessionsMax homes 2 1 σ
-    → τ₂ ≡ row 10 sessionsMax homes 2 0 τ₁
-    → τ₃ ≡ row 4 hallsMax masks 1 0 τ₂
+    → τ₁ ≡ row (HomePartition 0 .kind) sessionsMax homes 2 1 σ
+    → τ₂ ≡ row (HomeHall 0 .kind) sessionsMax homes 2 0 τ₁
+    → τ₃ ≡ row (Mask 0 .kind) hallsMax masks 1 0 τ₂
     → τ₃ ≡ numbersSet masks homes
 rows-numbers masks homes {τ₁ = τ₁} {τ₂ = τ₂} e₀ e₁ e₂ e₃ =
     e₃ ∙ masks-row masks τ₂ ∙ ap (each1 Mask (λ h. ltb h hallsMax) (λ h. getD masks h 0))
     (e₂ ∙ halls-row homes τ₁ ∙ ap (each1 HomeHall (λ s. ltb s sessionsMax) (λ s. getD homes (2 * s) 0))
-    (e₁ ∙ ap (row 11 sessionsMax homes 2 1) e₀))
+    (e₁ ∙ ap (row (HomePartition 0 .kind) sessionsMax homes 2 1) e₀))
 
 -- the places of a row's numbers are small
 pub place-le : (step i : ℕ) → step ≤ 2 → i ≤ sessionsMax → step * i ≤ 2 * sessionsMax

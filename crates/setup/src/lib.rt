@@ -11,6 +11,9 @@ ghost use Rattle.room.specs.Layout.{size, Within, store};
 ghost use Rattle.setup.specs.Outcome.{Outcome};
 ghost use Rattle.setup.specs.Rows.{row};
 use book::Answer;
+use book::HALLS_MAX;
+use book::PARTITIONS_MAX;
+use book::SESSIONS_MAX;
 use room::HALLS;
 use room::HOME_HALL;
 use room::HOME_PARTITION;
@@ -44,9 +47,9 @@ fn lay_out(fresh: &mut [u64], masks: &[u64], homes: &[u64])
 {
     room::put(fresh, HALLS, 0, 0, 0, 0, masks.len() as u64);
     room::put(fresh, SESSIONS, 0, 0, 0, 0, (homes.len() / 2) as u64);
-    put_row(fresh, HOME_PARTITION, 16, homes, 2, 1);
-    put_row(fresh, HOME_HALL, 16, homes, 2, 0);
-    put_row(fresh, MASK, 4, masks, 1, 0);
+    put_row(fresh, HOME_PARTITION, SESSIONS_MAX, homes, 2, 1);
+    put_row(fresh, HOME_HALL, SESSIONS_MAX, homes, 2, 0);
+    put_row(fresh, MASK, HALLS_MAX, masks, 1, 0);
     let held = formed::partitions_held(fresh);
     room::put(fresh, PARTITIONS, 0, 0, 0, 0, held);
 }
@@ -57,7 +60,7 @@ fn servers_of(room: &[u64], h: usize) -> u64
     ensures { λ r. ⌜ r ≡ count partitionsMax (holds (store (now (room .entry))) h) ⌝ }
 {
     let mut n = 0;
-    for p in 0..4 {
+    for p in 0..PARTITIONS_MAX {
         n = formed::one_more(n, servers::holds(room, h, p));
     }
     n
@@ -68,7 +71,7 @@ fn all_servers(room: &[u64]) -> u64
     ensures { λ r. ⌜ r ≡ servers (store (now (room .entry))) ⌝ }
 {
     let mut n = 0;
-    for h in 0..4 {
+    for h in 0..HALLS_MAX {
         n += servers_of(room, h);
     }
     n
@@ -93,7 +96,7 @@ pub fn setup(room: &mut [u64], masks: &[u64], homes: &[u64]) -> Answer
     if homes.len() % 2 != 0 {
         return Answer::Refused(2);
     }
-    let mut fresh = [0u64; 7304];
+    let mut fresh = [0u64; SIZE];
     lay_out(&mut fresh, masks, homes);
     if !formed::good_setup(&fresh) {
         return Answer::Refused(2);

@@ -6,6 +6,7 @@ ghost use Rattle.book.specs.Sizes.{hallsMax, partitionsMax};
 ghost use Rattle.room.specs.Layout.{size, store};
 ghost use Rattle.book.specs.Cells.{Entry};
 ghost use Rattle.vectors.specs.Vectors.{vectorOf, lowestTime, updatedAt};
+use book::HALLS_MAX;
 use book::Timestamp;
 use book::Vector;
 use room::ENTRY;
@@ -38,7 +39,7 @@ pub fn lowest(v: Vector) -> Timestamp
     let holders = v.holders;
     let entries = v.times;
     let mut l = times::none();
-    for g in 0..4 {
+    for g in 0..HALLS_MAX {
         l = times::join(l, masks::has(holders, g as u64), entries[g]);
     }
     l.time

@@ -9,6 +9,7 @@ ghost use Rattle.book.specs.Views.{later as isLater, merge as merged, version, 
 ghost use Rattle.room.specs.Layout.{size, store};
 ghost use Rattle.views.specs.Partitions.{Parted};
 ghost use Rattle.views.specs.Merging.{Looks, joined};
+use book::PLACES_MAX;
 use book::Stamp;
 use book::Timestamp;
 use book::TxNumber;
@@ -107,7 +108,7 @@ pub fn held_view(room: &[u64], h: usize, k: usize, s: Timestamp) -> View
 {
     let p = partition_of(room, k);
     let mut sofar = View::Nothing;
-    for t in 0..64 {
+    for t in 0..PLACES_MAX {
         sofar = join(room, h, p, k, s, t, sofar);
     }
     sofar

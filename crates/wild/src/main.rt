@@ -4,6 +4,7 @@ ghost use Prim.Native.Nat.{_+_, _≤_, _<_};
 ghost use Rattle.wild.specs.Counted.{isRefused, counted as countedOf};
 use book::Answer;
 use libc::STDOUT_FILENO;
+use room::SIZE;
 
 // The next number of a xorshift generator.
 fn next(x: u64) -> u64 {
@@ -122,7 +123,7 @@ fn five(room: &mut [u64], seed: u64, answered: u64) -> u64
 }
 
 fn main() {
-    let mut room = [0u64; 7304];
+    let mut room = [0u64; SIZE];
     let x = fill(&mut room, 88172645463325252);
     let mut n = steps(
         b"random words as a room, any code and numbers",

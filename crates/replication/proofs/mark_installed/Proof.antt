@@ -4,7 +4,7 @@ use mathlib.Core.Path.{_≡_, sym}
 use native.Mathlib.Omega.{arith}
 use lib.ListN.{length}
 use Rattle.book.specs.Sizes.{placesMax}
-use Rattle.book.specs.Cells.{Cell, installed}
+use Rattle.book.specs.Cells.{Cell, State, installed}
 use Rattle.book.specs.Sets.{member}
 use Rattle.room.specs.Layout.{size, store}
 use Rattle.room.specs.Bulk.{row2i, upTo, begin, ahead, next}
@@ -17,7 +17,7 @@ among m d = member m (d .i)
 
 abbrev Inv-loop : tie.InvT-loop
 Inv-loop room₀ p set t₀ room t =
-    (t ≤ placesMax) × (length room ≡ size) × (store room ≡ upTo (row2i 26 p) (among set) (λ d. installed) t (store room₀))
+    (t ≤ placesMax) × (length room ≡ size) × (store room ≡ upTo (row2i (State 0 0 .kind) p) (among set) (λ d. installed) t (store room₀))
 
 abbrev μ-loop : tie.MeasureT-loop
 μ-loop room₀ p set t₀ room t = placesMax - t
@@ -28,7 +28,7 @@ mark-installed-spec =
     (tie.spec
     Inv-loop
     μ-loop
-    (λ c. let s = c .before in (search needs, s .pre .0, sym (begin (row2i 26 (s .args .p)) (among (s .args .set)) (λ d. installed) (store (s .args .room .now)))))
+    (λ c. let s = c .before in (search needs, s .pre .0, sym (begin (row2i (State 0 0 .kind) (s .args .p)) (among (s .args .set)) (λ d. installed) (store (s .args .room .now)))))
     (λ c κs. search needs)
     (λ c κs. search needs)
     (λ c. search needs)
@@ -36,7 +36,7 @@ mark-installed-spec =
     (λ c. let i = c .before .before .before .before .before .before .loop in
     let a = c .before .before .before .before .before .before .before .before .args in
     let σ = store (a .room .now) in
-    let R = row2i 26 (a .p) in (
+    let R = row2i (State 0 0 .kind) (a .p) in (
       search needs,
       c .before .before .put-if .ensures .0,
       rw

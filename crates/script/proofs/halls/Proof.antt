@@ -4,6 +4,7 @@ use native.Mathlib.Omega.{arith}
 use borrow.Author.Needs.{needs}
 use lib.ListN.{length, take, replicate}
 use lib.Seq.{length-take-le}
+use Rattle.book.specs.Sizes.{hallsMax}
 use Rattle.room.specs.Layout.{store}
 use Rattle.scan.specs.Sections.{sectionAt}
 use Rattle.script.specs.Printout.{stop, refused, sessionsFrom, hallsFrom, halls-is}
@@ -19,9 +20,9 @@ outside : (c : tie.After-enum-told) → let a = c .before .before .before .befor
 outside c = let a = c .before .before .before .before .before .before .before .before .args in rw (halls-is (a .text .now) (store (a .room .now)), ← (c .before .before .before .read-section .ensures .1), c .enum-told .given .1)
 
 read : (c : tie.After-known-told2) → let a = c .before .before .before .before .before .before .before .before .before .args in let n = c .before .n .given .0 .0 in let late = c .before .before .before .before .read-section .last .1 .1 .1 .1 .0 in
-    (n ≤ length late) × (take n late ≡ sectionAt 4 1 (a .text .now) 0 .got)
+    (n ≤ length late) × (take n late ≡ sectionAt hallsMax 1 (a .text .now) 0 .got)
 read c = let a = c .before .before .before .before .before .before .before .before .before .args in
-    front 4 1 (a .text .now) 0 (replicate 4 0) (omega arith) (c .before .before .before .before .read-section .ensures .0) (c .before .before .before .before .read-section .ensures .1) (c .before .n .given .1)
+    front hallsMax 1 (a .text .now) 0 (replicate hallsMax 0) (omega arith) (c .before .before .before .before .read-section .ensures .0) (c .before .before .before .before .read-section .ensures .1) (c .before .n .given .1)
 
 gone : (c : tie.After-known-told2) → let a = c .before .before .before .before .before .before .before .before .before .args in let n = c .before .n .given .0 in let got = take (n .0) (c .before .before .before .before .read-section .last .1 .1 .1 .1 .0) in
     hallsFrom (a .text .now) (store (a .room .now)) ≡ sessionsFrom got (a .text .now) (n .1 .0 .at) (store (a .room .now))

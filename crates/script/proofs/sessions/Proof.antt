@@ -1,9 +1,10 @@
-use Prim.Native.Nat.{_≤_}
+use Prim.Native.Nat.{_≤_, _*_}
 use mathlib.Core.Path.{_≡_, sym}
 use native.Mathlib.Omega.{arith}
 use borrow.Author.Needs.{needs}
 use lib.ListN.{length, take, replicate}
 use lib.Seq.{length-take-le}
+use Rattle.book.specs.Sizes.{sessionsMax}
 use Rattle.room.specs.Layout.{store}
 use Rattle.scan.specs.Sections.{sectionAt}
 use Rattle.script.specs.Printout.{stop, refused, setupFrom, sessionsFrom, sessions-is}
@@ -19,9 +20,9 @@ outside : (c : tie.After-enum-told) → let a = c .before .before .before .befor
 outside c = let a = c .before .before .before .before .before .before .before .before .before .args in rw (sessions-is (a .masks .now) (a .text .now) (a .from) (store (a .room .now)), ← (c .before .before .before .read-section .ensures .1), c .enum-told .given .1)
 
 read : (c : tie.After-known-told2) → let a = c .before .before .before .before .before .before .before .before .before .before .args in let n = c .before .n .given .0 .0 in let late = c .before .before .before .before .read-section .last .1 .1 .1 .1 .0 in
-    (n ≤ length late) × (take n late ≡ sectionAt 16 2 (a .text .now) (a .from) .got)
+    (n ≤ length late) × (take n late ≡ sectionAt sessionsMax 2 (a .text .now) (a .from) .got)
 read c = let a = c .before .before .before .before .before .before .before .before .before .before .args in
-    front 16 2 (a .text .now) (a .from) (replicate 32 0) (omega arith) (c .before .before .before .before .read-section .ensures .0) (c .before .before .before .before .read-section .ensures .1) (c .before .n .given .1)
+    front sessionsMax 2 (a .text .now) (a .from) (replicate (2 * sessionsMax) 0) (omega arith) (c .before .before .before .before .read-section .ensures .0) (c .before .before .before .before .read-section .ensures .1) (c .before .n .given .1)
 
 gone : (c : tie.After-known-told2) → let a = c .before .before .before .before .before .before .before .before .before .before .args in let n = c .before .n .given .0 in let got = take (n .0) (c .before .before .before .before .read-section .last .1 .1 .1 .1 .0) in
     sessionsFrom (a .masks .now) (a .text .now) (a .from) (store (a .room .now)) ≡ setupFrom (a .masks .now) got (a .text .now) (n .1 .0 .at) (store (a .room .now))
