@@ -4,6 +4,7 @@ use mathlib.Core.Bool.{Bool, true, false, cond, _&&_}
 use mathlib.Core.Path.{_≡_, refl, ap, sym, _∙_}
 use mathlib.Core.Logic.{_↔_}
 use mathlib.Core.List.{[], _∷_}
+use Rattle.book.specs.Sets.{lt-suc}
 use Rattle.book.specs.Servers.{placeOf}
 use native.Mathlib.Nat.{le-trans}
 use native.Mathlib.Omega.{arith}
@@ -34,12 +35,6 @@ pairsAsked σ = sum (σ Transactions) (λ t. count partitionsMax (touches σ (σ
 abbrev pub Stated : Store → Type 0
 Stated σ = (t p : ℕ) → ltb 0 (σ (State t p)) ≡ (ltb t (σ Transactions) && touches σ (σ (KeySet t)) p)
 
-later-place : (t u : ℕ) → (t ≡ u → ⊥) → ltb u (suc t) ≡ ltb u t
-later-place t u q =
-    by-test (ltb u t)
-    (λ c. let l = ltb-true u t c in rw (c, lt-ltb u (suc t) (omega arith)))
-    (λ c. let l = ltb-false u t c in rw (c, le-ltb u (suc t) (omega arith)))
-
 module _ (σ : Store) (I : Stated σ) where
   ask-stated : (s : ℕ) → Stated (ask σ s)
   ask-stated s u p =
@@ -49,7 +44,7 @@ module _ (σ : Store) (I : Stated σ) where
       (by-test (touches σ (σ (WriteSet s)) p)
       (λ d. rw d)
       (λ d. rw d (I u p ∙ rw (le-ltb u t (omega arith))))))
-      (λ q c. rw (c, later-place t u q) (I u p))
+      (λ q c. rw (c, lt-suc u t q) (I u p))
 
   -- a state that goes on to another
   put-stated : (t p v : ℕ) → 0 < σ (State t p) → 0 < v → Stated (σ ⟨ State t p ≔ v ⟩)

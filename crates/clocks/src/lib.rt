@@ -1,3 +1,4 @@
+// 1. A server's clock, taken from the room and put back whole; what it proposes; tick.
 ghost use mathlib.Core.Path.{_≡_};
 ghost use Prim.Native.Nat.{_<_, _≤_};
 ghost use lib.ListN.{length};
@@ -38,12 +39,12 @@ pub fn put_back(room: &mut [u64], h: usize, p: usize, c: Clock)
 }
 
 // "the largest of reading, hybrid clock + 1, the session's last commit time + 1, S + 1"
-pub fn proposed(mut c: Clock, last: Timestamp, s: Timestamp) -> Clock
-    requires { ⌜ (c .hybrid .0 ≤ timeMax) × (last .0 ≤ timeMax) × (s .0 ≤ timeMax) ⌝ }
-    ensures { λ r. ⌜ r ≡ proposedClock c (last .0) (s .0) ⌝ }
+pub fn proposed(mut c: Clock, last: Timestamp, snapshot: Timestamp) -> Clock
+    requires { ⌜ (c .hybrid .0 ≤ timeMax) × (last .0 ≤ timeMax) × (snapshot .0 ≤ timeMax) ⌝ }
+    ensures { λ r. ⌜ r ≡ proposedClock c (last .0) (snapshot .0) ⌝ }
 {
     let hybrid = c.hybrid;
-    let x = larger(next(hybrid), larger(next(last), next(s)));
+    let x = larger(next(hybrid), larger(next(last), next(snapshot)));
     c.hybrid = larger(timestamp_of(c.reading), x);
     c
 }

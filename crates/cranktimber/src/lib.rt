@@ -1,5 +1,5 @@
 // The store for C: setup and step under plain names, the answer as its three numbers. Their header is c/cranktimber.h.
-ghost use Rattle.setup.specs.Outcome.{setupGiven, setupRoom, setupStore};
+ghost use Rattle.setup.specs.SetUp.{setupGiven, setupRoom, setupStore};
 ghost use Rattle.store.specs.Face.{stepAnswer, stepRoom, stepStore};
 ghost use Rattle.cranktimber.specs.Told.{Told};
 use book::Numbers;

@@ -8,8 +8,8 @@ use lib.Dec.{leb}
 use Rattle.book.specs.Sizes.{partitionsMax}
 use Rattle.book.specs.Cells.{Store, State, prepared}
 use Rattle.book.specs.Cases.{by-test}
-use Rattle.book.specs.Folds.{any, count, sum, largest, largest-within}
-use Rattle.room.specs.Loops.{count-le, sum-le}
+use Rattle.book.specs.Folds.{any, count, sum, largest, largest-within, sum-most}
+use Rattle.room.specs.Loops.{count-le}
 use Rattle.formed.specs.Blocks.{preparedAt}
 
 -- at most each partition of a transaction, so at most so many of n transactions
@@ -17,7 +17,7 @@ pub prepared-le : (σ : Store) (t : ℕ) → preparedAt σ t ≤ partitionsMax
 prepared-le σ t = count-le partitionsMax (λ p. leb prepared (σ (State t p)))
 
 pub pairs-le : (n : ℕ) (σ : Store) → sum n (preparedAt σ) ≤ n * partitionsMax
-pairs-le n σ = sum-le n partitionsMax (preparedAt σ) (prepared-le σ)
+pairs-le n σ = sum-most n partitionsMax (preparedAt σ) (prepared-le σ)
 
 -- one more than the highest below n that passes, 0 where none does
 abbrev pub highest : ℕ → (ℕ → Bool) → ℕ

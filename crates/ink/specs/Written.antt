@@ -8,7 +8,7 @@ use lib.ListN.{length, take, drop, set, length-append}
 use lib.Seq.{sets, sets-eq}
 
 -- there is room for the bytes
-pub record Room (out : List ℕ) (at : ℕ) (bytes : List ℕ) : Type 0 where
+pub record Fits (out : List ℕ) (at : ℕ) (bytes : List ℕ) : Type 0 where
   pub enough : at + length bytes ≤ length out
 
 -- `late` is `out` with the bytes stored from `at` on and nothing else changed, and `next` is the place after them
@@ -18,7 +18,7 @@ pub record Written (out : List ℕ) (at : ℕ) (bytes : List ℕ) (late : List �
   pub size : length late ≡ length out
 
 -- the same by parts
-pub parts : {out bytes late : List ℕ} {at next : ℕ} → Written out at bytes late next → Room out at bytes
+pub parts : {out bytes late : List ℕ} {at next : ℕ} → Written out at bytes late next → Fits out at bytes
     → late ≡ take at out ++ bytes ++ drop (at + length bytes) out
 parts {out} {bytes} {late} {at} w h = w .list ∙ sets-eq bytes out at (h .enough)
 
@@ -42,21 +42,21 @@ then {out} {xs} {mid} {ys} {late} {at} {m} {next} v w = record {
 }
 
 -- room for both is room for the first, and room for the second after it
-pub first : {out xs : List ℕ} {at : ℕ} (ys : List ℕ) → Room out at (xs ++ ys) → Room out at xs
+pub first : {out xs : List ℕ} {at : ℕ} (ys : List ℕ) → Fits out at (xs ++ ys) → Fits out at xs
 first {out} {xs} ys h = record { enough = omega (arith, length-append xs ys) }
 
-pub second : {out xs mid ys : List ℕ} {at m : ℕ} → Written out at xs mid m → Room out at (xs ++ ys) → Room mid m ys
+pub second : {out xs mid ys : List ℕ} {at m : ℕ} → Written out at xs mid m → Fits out at (xs ++ ys) → Fits mid m ys
 second {out} {xs} {mid} {ys} {at} {m} w h =
     record { enough = omega (arith, length-append xs ys, w .place, w .size) }
 
 -- The invariant of a loop that writes: from `out` and `at` it has come to `mid` and `m`, and what is left to write from there makes the whole.
 pub record Left (out : List ℕ) (at : ℕ) (whole : List ℕ) (mid : List ℕ) (m : ℕ) (rest : List ℕ) : Type 0 where
   pub size : length mid ≡ length out
-  pub room : Room mid m rest
+  pub room : Fits mid m rest
   pub ends : (late : List ℕ) (next : ℕ) → Written mid m rest late next → Written out at whole late next
 
 -- before the first turn, after a turn, and at the end
-pub begun : {out whole : List ℕ} {at : ℕ} → Room out at whole → Left out at whole out at whole
+pub begun : {out whole : List ℕ} {at : ℕ} → Fits out at whole → Left out at whole out at whole
 begun h = record { size = refl; room = h; ends = λ late next w. w }
 
 pub on : {out whole mid xs ys late : List ℕ} {at m n : ℕ} → Written mid m xs late n → Left out at whole mid m (xs ++ ys)

@@ -3,7 +3,7 @@ ghost use mathlib.Core.Path.{_≡_};
 ghost use Prim.Native.Nat.{_+_, _<_};
 ghost use mathlib.Core.List.{[], _∷_};
 ghost use Rattle.ink.specs.Decimal.{digits, item, line, script};
-ghost use Rattle.ink.specs.Written.{Written, Room};
+ghost use Rattle.ink.specs.Written.{Written, Fits};
 
 fn digit(d: u64) -> u8
     requires { ⌜ d < 10 ⌝ }
@@ -13,7 +13,7 @@ fn digit(d: u64) -> u8
 }
 
 pub fn put_byte(out: &mut [u8], at: usize, b: u8) -> usize
-    requires { ⌜ Room (now out) at (b ∷ []) ⌝ }
+    requires { ⌜ Fits (now out) at (b ∷ []) ⌝ }
     ensures { λ r. ⌜ Written (now (out .entry)) at (b ∷ []) (now (out .exit)) r ⌝ }
 {
     out[at] = b;
@@ -21,7 +21,7 @@ pub fn put_byte(out: &mut [u8], at: usize, b: u8) -> usize
 }
 
 pub fn put_bytes(out: &mut [u8], at: usize, s: &[u8]) -> usize
-    requires { ⌜ Room (now out) at (now s) ⌝ }
+    requires { ⌜ Fits (now out) at (now s) ⌝ }
     ensures { λ r. ⌜ Written (now (out .entry)) at (now (s .entry)) (now (out .exit)) r ⌝ }
 {
     let mut next = at;
@@ -34,7 +34,7 @@ pub fn put_bytes(out: &mut [u8], at: usize, s: &[u8]) -> usize
 }
 
 pub fn put_number(out: &mut [u8], at: usize, n: u64) -> usize
-    requires { ⌜ Room (now out) at (digits n) ⌝ }
+    requires { ⌜ Fits (now out) at (digits n) ⌝ }
     ensures { λ r. ⌜ Written (now (out .entry)) at (digits n) (now (out .exit)) r ⌝ }
 {
     if n < 10 {
@@ -46,7 +46,7 @@ pub fn put_number(out: &mut [u8], at: usize, n: u64) -> usize
 
 // A number and the byte after it.
 pub fn put_item(out: &mut [u8], at: usize, n: u64, end: u8) -> usize
-    requires { ⌜ Room (now out) at (item n end) ⌝ }
+    requires { ⌜ Fits (now out) at (item n end) ⌝ }
     ensures { λ r. ⌜ Written (now (out .entry)) at (item n end) (now (out .exit)) r ⌝ }
 {
     let next = put_number(out, at, n);
@@ -61,7 +61,7 @@ pub fn put_line(
     first: u64,
     second: u64,
 ) -> usize
-    requires { ⌜ Room (now out) at (line step refusal first second) ⌝ }
+    requires { ⌜ Fits (now out) at (line step refusal first second) ⌝ }
     ensures { λ r. ⌜ Written (now (out .entry)) at (line step refusal first second) (now (out .exit)) r ⌝ }
 {
     let p = put_item(out, at, step, 32);
@@ -71,7 +71,7 @@ pub fn put_line(
 }
 
 pub fn put_script(out: &mut [u8], at: usize, offset: usize) -> usize
-    requires { ⌜ Room (now out) at (script offset) ⌝ }
+    requires { ⌜ Fits (now out) at (script offset) ⌝ }
     ensures { λ r. ⌜ Written (now (out .entry)) at (script offset) (now (out .exit)) r ⌝ }
 {
     let next = put_bytes(out, at, b"script ");

@@ -11,7 +11,7 @@ ghost use Rattle.book.specs.Folds.{any};
 ghost use Rattle.book.specs.Servers.{holds, partitionOf};
 ghost use Rattle.room.specs.Layout.{size, store};
 ghost use Rattle.book.specs.Steps.{refusal as refusalOf};
-ghost use Rattle.replication.specs.Safe.{Coordinated, Timely};
+ghost use Rattle.replication.specs.Safe.{AllCoordinated, AllTimely};
 ghost use Rattle.ladders.specs.Sized.{Sized};
 ghost use Rattle.ladders.specs.Full.{fullTo};
 use book::HALLS_MAX;
@@ -202,7 +202,7 @@ pub fn decide(room: &[u64], n: TxNumber, y: u64, z: u64) -> u64
 }
 
 pub fn install(room: &[u64], h: u64, p: u64, z: u64) -> u64
-    requires { ⌜ (length (now room) ≡ size) × Sized (store (now room)) × Coordinated (store (now room)) × ((q : ℕ) → q < partitionsMax → Timely (store (now room)) q) ⌝ }
+    requires { ⌜ (length (now room) ≡ size) × Sized (store (now room)) × AllCoordinated (store (now room)) × ((q : ℕ) → q < partitionsMax → AllTimely (store (now room)) q) ⌝ }
     ensures { λ r. ⌜ r ≡ installRefusal (store (now (room .entry))) h p z ⌝ }
 {
     if !both(server_there(room, h, p), z == 0) {
@@ -314,7 +314,7 @@ fn channel_full(room: &[u64], h: usize, p: usize) -> bool
 
 // the number given to a step, 0 where it is taken
 pub fn refusal(room: &[u64], code: u64, a: u64, b: u64, c: u64) -> u64
-    requires { ⌜ (length (now room) ≡ size) × Sized (store (now room)) × Coordinated (store (now room)) × ((q : ℕ) → q < partitionsMax → Timely (store (now room)) q) ⌝ }
+    requires { ⌜ (length (now room) ≡ size) × Sized (store (now room)) × AllCoordinated (store (now room)) × ((q : ℕ) → q < partitionsMax → AllTimely (store (now room)) q) ⌝ }
     ensures { λ r. ⌜ r ≡ refusalOf (store (now (room .entry))) code a b c ⌝ }
 {
     match code {

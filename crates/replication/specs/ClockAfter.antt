@@ -12,14 +12,14 @@ use Rattle.book.specs.ReplicationSteps.{preparedAt}
 use Rattle.times.specs.declared.Lowest.{Lowest}
 use Rattle.times.specs.Lowest.{lowestBelow}
 use Rattle.clocks.specs.Clocks.{clock}
-use Rattle.replication.specs.Safe.{Timely}
+use Rattle.replication.specs.Safe.{AllTimely}
 
 -- the lowest proposed time of those below n that are prepared at server (h, p)
 abbrev pub lowestProposed : Store → ℕ → ℕ → ℕ → Lowest
 lowestProposed σ h p n = lowestBelow n (preparedAt σ h p) (λ t. σ (Proposed t p))
 
 -- what is prepared was proposed a time above 0, so the lowest of them is above 0
-pub lowest-above : (σ : Store) (h p : ℕ) → Timely σ p
+pub lowest-above : (σ : Store) (h p : ℕ) → AllTimely σ p
     → lowestProposed σ h p placesMax .some ≡ true → 1 ≤ lowestProposed σ h p placesMax .time .0
 lowest-above σ h p T a =
     lowest-ge placesMax (preparedAt σ h p) (λ t. σ (Proposed t p)) 1 a

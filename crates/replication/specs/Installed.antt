@@ -12,7 +12,7 @@ use Rattle.book.specs.ReplicationSteps.{versionClock, hybridAfter, installs, nu
 use Rattle.room.specs.Layout.{store}
 use Rattle.room.specs.Stretch.{heldAll}
 use Rattle.clocks.specs.Clocks.{clock}
-use Rattle.replication.specs.declared.Outcome.{Outcome}
+use Rattle.replication.specs.declared.Installation.{Installation}
 use Rattle.replication.specs.Installing.{marked, in-set}
 use Rattle.replication.specs.Sending.{messagesTo, messages}
 
@@ -41,7 +41,7 @@ unless true ok h p c m σ τ = λ x d. silent d x where
 unless false ok h p c m σ τ = refl
 
 -- what an install comes to
-abbrev pub outcomeOf : Store → ℕ → ℕ → Outcome
+abbrev pub outcomeOf : Store → ℕ → ℕ → Installation
 outcomeOf σ h p =
     record {
       clock = clock (σ (Reading h p)) (hybridAfter σ h p) (versionClock σ h p);
@@ -51,7 +51,7 @@ outcomeOf σ h p =
     }
 
 -- the server's stretch first, then the states, then the messages, unless it is quiet
-pub all-parts : (r : List ℕ) (h p : ℕ) (o : Outcome) → o ≡ outcomeOf (store r) h p
+pub all-parts : (r : List ℕ) (h p : ℕ) (o : Installation) → o ≡ outcomeOf (store r) h p
     → let τ = marked p (o .set)
     (heldAll (o .set) h p (store r ⟨ Hybrid h p ≔ o .clock .hybrid .0 ⟩ ⟨ Entry h p h ≔ o .clock .version .0 ⟩)) in
     cond (o .quiet) τ (messages τ h p (o .clock .version .0) (o .set) τ) ≡ install (store r) h p

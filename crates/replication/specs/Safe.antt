@@ -5,7 +5,7 @@ use Rattle.book.specs.Sizes.{hallsMax, placesMax, slots}
 use Rattle.book.specs.Cells.{Store, Halls, From, State, prepared, Proposed, First, Waiting}
 
 -- every transaction comes from one of the halls
-pub record Coordinated (σ : Store) : Type 0 where
+pub record AllCoordinated (σ : Store) : Type 0 where
   pub halls : σ Halls ≤ hallsMax
   pub from : (t : ℕ) → t < placesMax → σ (From t) < σ Halls
 
@@ -15,7 +15,7 @@ pub record Channel (σ : Store) (g p f : ℕ) : Type 0 where
   pub waiting : σ (Waiting g p f) ≤ slots
 
 -- what is prepared for p was proposed a time above 0
-pub record Timely (σ : Store) (p : ℕ) : Type 0 where
+pub record AllTimely (σ : Store) (p : ℕ) : Type 0 where
   pub proposed : (t : ℕ) → t < placesMax → σ (State t p) ≡ prepared → 1 ≤ σ (Proposed t p)
 
 -- so has every channel that server (h, p) may send through

@@ -11,7 +11,7 @@ ghost use Rattle.book.specs.Servers.{writer};
 ghost use Rattle.book.specs.ReplicationSteps.{preparedAt, versionClock, numberInstalled, isQuiet, otherHolder, install as installedStore, clockCarried, numberCarried, deliver as deliveredStore};
 ghost use Rattle.room.specs.Layout.{size, store};
 ghost use Rattle.times.specs.Lowest.{joined};
-ghost use Rattle.replication.specs.Safe.{Coordinated, Channel, Timely, Outgoing};
+ghost use Rattle.replication.specs.Safe.{AllCoordinated, Channel, AllTimely, Outgoing};
 ghost use Rattle.replication.specs.ClockAfter.{lowestProposed, installedClock};
 ghost use Rattle.replication.specs.Installing.{due, marked};
 ghost use Rattle.replication.specs.Sending.{sent, sentIf, messages};
@@ -43,14 +43,14 @@ const SLOTS: u64 = SLOTS_MAX as u64;
 
 // Whether the transaction at place t is in that state for p, and h is its writing hall.
 fn is_at(room: &[u64], h: usize, p: usize, t: usize, state: u64) -> bool
-    requires { ⌜ (length (now room) ≡ size) × (p < partitionsMax) × (t < placesMax) × Coordinated (store (now room)) ⌝ }
+    requires { ⌜ (length (now room) ≡ size) × (p < partitionsMax) × (t < placesMax) × AllCoordinated (store (now room)) ⌝ }
     ensures { λ r. ⌜ r ≡ (eqb (store (now (room .entry)) (State t p)) state && eqb (writer (store (now (room .entry))) t p) h) ⌝ }
 {
     room::get(room, STATE, t, p, 0, 0) == state && servers::writing_hall(room, t, p) == h
 }
 
 fn with_prepared(room: &[u64], h: usize, p: usize, t: usize, l: Lowest) -> Lowest
-    requires { ⌜ (length (now room) ≡ size) × (p < partitionsMax) × (t < placesMax) × Coordinated (store (now room)) ⌝ }
+    requires { ⌜ (length (now room) ≡ size) × (p < partitionsMax) × (t < placesMax) × AllCoordinated (store (now room)) ⌝ }
     ensures { λ r. ⌜ r ≡ joined l (preparedAt (store (now (room .entry))) h p t) (store (now (room .entry)) (Proposed t p)) ⌝ }
 {
     let x = Timestamp(room::get(room, PROPOSED, t, p, 0, 0));
@@ -59,7 +59,7 @@ fn with_prepared(room: &[u64], h: usize, p: usize, t: usize, l: Lowest) -> Lowes
 
 // The lowest proposed time of those that are prepared at server (h, p), if there are any.
 fn lowest_prepared(room: &[u64], h: usize, p: usize) -> Lowest
-    requires { ⌜ (length (now room) ≡ size) × (p < partitionsMax) × Coordinated (store (now room)) ⌝ }
+    requires { ⌜ (length (now room) ≡ size) × (p < partitionsMax) × AllCoordinated (store (now room)) ⌝ }
     ensures { λ r. ⌜ r ≡ lowestProposed (store (now (room .entry))) h p placesMax ⌝ }
 {
     let mut l = none();
@@ -88,14 +88,14 @@ fn installed(mut c: Clock, l: Lowest) -> Clock
 
 // "Every waiting transaction with commit time at or below the version clock"
 fn is_due(room: &[u64], h: usize, p: usize, version: Timestamp, t: usize) -> bool
-    requires { ⌜ (length (now room) ≡ size) × (p < partitionsMax) × (t < placesMax) × Coordinated (store (now room)) ⌝ }
+    requires { ⌜ (length (now room) ≡ size) × (p < partitionsMax) × (t < placesMax) × AllCoordinated (store (now room)) ⌝ }
     ensures { λ r. ⌜ r ≡ due (store (now (room .entry))) h p (version .0) t ⌝ }
 {
     is_at(room, h, p, t, STATE_WAITING) && room::get(room, COMMIT_TIME, t, 0, 0, 0) <= version.0
 }
 
 fn with_due(room: &[u64], h: usize, p: usize, version: Timestamp, t: usize, set: u64) -> u64
-    requires { ⌜ (length (now room) ≡ size) × (p < partitionsMax) × (t < placesMax) × Coordinated (store (now room)) ⌝ }
+    requires { ⌜ (length (now room) ≡ size) × (p < partitionsMax) × (t < placesMax) × AllCoordinated (store (now room)) ⌝ }
     ensures { λ r. ⌜ r ≡ cond (due (store (now (room .entry))) h p (version .0) t) (include set t) set ⌝ }
 {
     if is_due(room, h, p, version, t) {
@@ -107,7 +107,7 @@ fn with_due(room: &[u64], h: usize, p: usize, version: Timestamp, t: usize, set:
 
 // The set of those that are installed.
 fn due_set(room: &[u64], h: usize, p: usize, version: Timestamp) -> u64
-    requires { ⌜ (length (now room) ≡ size) × (p < partitionsMax) × Coordinated (store (now room)) ⌝ }
+    requires { ⌜ (length (now room) ≡ size) × (p < partitionsMax) × AllCoordinated (store (now room)) ⌝ }
     ensures { λ r. ⌜ r ≡ setOf placesMax (due (store (now (room .entry))) h p (version .0)) ⌝ }
 {
     let mut set = 0;
@@ -118,7 +118,7 @@ fn due_set(room: &[u64], h: usize, p: usize, version: Timestamp) -> u64
 }
 
 // What an install comes to: the server's clock after it, the set of those it installs, their number, and whether it is quiet.
-struct Outcome {
+struct Installation {
     clock: Clock,
     set: u64,
     number: u64,
@@ -133,15 +133,15 @@ fn says_nothing(number: u64, before: Clock, after: Clock) -> bool
 }
 
 // Worked out before anything is written: "where it was" is the server's own entry before the step.
-fn outcome_of(room: &[u64], h: usize, p: usize) -> Outcome
-    requires { ⌜ (length (now room) ≡ size) × (h < hallsMax) × (p < partitionsMax) × Coordinated (store (now room)) × Timely (store (now room)) p ⌝ }
+fn outcome_of(room: &[u64], h: usize, p: usize) -> Installation
+    requires { ⌜ (length (now room) ≡ size) × (h < hallsMax) × (p < partitionsMax) × AllCoordinated (store (now room)) × AllTimely (store (now room)) p ⌝ }
     ensures { λ r. ⌜ r ≡ outcomeOf (store (now (room .entry))) h p ⌝ }
 {
     let before = clocks::take(room, h, p);
     let clock = installed(before, lowest_prepared(room, h, p));
     let set = due_set(room, h, p, clock.version);
     let number = masks::count(set);
-    Outcome {
+    Installation {
         clock,
         set,
         number,
@@ -150,7 +150,7 @@ fn outcome_of(room: &[u64], h: usize, p: usize) -> Outcome
 }
 
 pub fn is_quiet(room: &[u64], h: usize, p: usize) -> bool
-    requires { ⌜ (length (now room) ≡ size) × (h < hallsMax) × (p < partitionsMax) × Coordinated (store (now room)) × Timely (store (now room)) p ⌝ }
+    requires { ⌜ (length (now room) ≡ size) × (h < hallsMax) × (p < partitionsMax) × AllCoordinated (store (now room)) × AllTimely (store (now room)) p ⌝ }
     ensures { λ r. ⌜ r ≡ isQuiet (store (now (room .entry))) h p ⌝ }
 {
     outcome_of(room, h, p).quiet
@@ -220,7 +220,7 @@ fn send_to_all(room: &mut [u64], h: usize, p: usize, m: Message)
 
 // 9. "Every waiting transaction with commit time at or below the version clock is installed. .. Answers the version clock and the number installed."
 pub fn install(room: &mut [u64], h: usize, p: usize) -> Answer
-    requires { ⌜ (length (now room) ≡ size) × (h < hallsMax) × (p < partitionsMax) × Coordinated (store (now room)) × Timely (store (now room)) p × Outgoing (store (now room)) h p ⌝ }
+    requires { ⌜ (length (now room) ≡ size) × (h < hallsMax) × (p < partitionsMax) × AllCoordinated (store (now room)) × AllTimely (store (now room)) p × Outgoing (store (now room)) h p ⌝ }
     ensures { λ r. ⌜ (length (now (room .exit)) ≡ size) × (r ≡ Answer.Answered (versionClock (store (now (room .entry))) h p) (numberInstalled (store (now (room .entry))) h p)) × (store (now (room .exit)) ≡ installedStore (store (now (room .entry))) h p) ⌝ }
 {
     let o = outcome_of(room, h, p);

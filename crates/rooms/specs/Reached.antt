@@ -18,14 +18,14 @@ use Rattle.book.specs.Reached.{Reached, Later}
 use Rattle.bounds.specs.WellFormedKept.{reached-well-formed}
 use Rattle.room.specs.Layout.{size, store}
 use Rattle.room.specs.Lay.{length-lay}
-use Rattle.setup.specs.Outcome.{Outcome, setupGiven, setupRoom, setupStore}
+use Rattle.setup.specs.SetUp.{SetUp, setupGiven, setupRoom, setupStore}
 use Rattle.store.specs.Face.{Stepped, sound, stepAnswer, stepRoom, stepStore, step-length}
 use Rattle.cranktimber.specs.Told.{Told}
 use Rattle.rooms.specs.Refused.{given, setup-gives}
 
 -- made, of any room, by a setup that is not turned away, and then changed by steps with any numbers, the refused among them
 pub data ReachedRoom : List ℕ → Type 0 where
-  begun : {r masks homes : List ℕ} {x : Answer} {late : List ℕ} → Outcome r masks homes x late → given x ≡ 0 → ReachedRoom late
+  begun : {r masks homes : List ℕ} {x : Answer} {late : List ℕ} → SetUp r masks homes x late → given x ≡ 0 → ReachedRoom late
   onward : {r : List ℕ} → ReachedRoom r → {code a b c : ℕ} {x : Answer} {late : List ℕ} → Stepped r code a b c x late → ReachedRoom late
 
 -- the room that r has become by steps
@@ -38,7 +38,7 @@ reached-later-room R LaterRoom.none = R
 reached-later-room R (LaterRoom.more w s) = ReachedRoom.onward (reached-later-room R w) s
 
 -- a setup that is not turned away
-setup-good : {r masks homes : List ℕ} {x : Answer} {late : List ℕ} → Outcome r masks homes x late → given x ≡ 0
+setup-good : {r masks homes : List ℕ} {x : Answer} {late : List ℕ} → SetUp r masks homes x late → given x ≡ 0
     → (eqb (length r) size ≡ true) × (setupRefusal masks homes ≡ 0)
 setup-good {r} o z =
     by-test (eqb (length r) size)
@@ -46,7 +46,7 @@ setup-good {r} o z =
     (λ e. let f : _≡_ {A = ℕ} 1 0 = rw e at (sym (setup-gives o) ∙ z) in absurd (omega arith))
 
 -- leaves the store of its numbers
-pub setup-store : {r masks homes : List ℕ} {x : Answer} {late : List ℕ} → Outcome r masks homes x late → given x ≡ 0
+pub setup-store : {r masks homes : List ℕ} {x : Answer} {late : List ℕ} → SetUp r masks homes x late → given x ≡ 0
     → store late ≡ firstStore masks homes
 setup-store o z = let w = setup-good o z in rw (w .0, w .1) at (o .store)
 
@@ -97,7 +97,7 @@ later-store R (LaterRoom.more {q} w {code} {a} {b} {c} s) =
 -- What the functions for C make and change are such rooms: what they tell are the numbers of what `setup` and `step` answer.
 pub c-setup : {r masks homes : List ℕ} {n : Numbers} {late : List ℕ}
     → Told (setupGiven r masks homes) (setupRoom r masks homes) (setupStore r masks homes) n late
-    → (n ≡ numbers (setupGiven r masks homes)) × Outcome r masks homes (setupGiven r masks homes) late
+    → (n ≡ numbers (setupGiven r masks homes)) × SetUp r masks homes (setupGiven r masks homes) late
 c-setup t = (t .numbers, record { answer = refl; room = t .room; store = t .store })
 
 pub c-step : {r : List ℕ} {code a b c : ℕ} {n : Numbers} {late : List ℕ}

@@ -18,7 +18,7 @@ use Rattle.book.specs.Setup.{setupRefusal, setupAnswer}
 use Rattle.book.specs.Steps.{Rule, by-code, refusal, answer, refused-unchanged, answer-refusal}
 use Rattle.facts.specs.Ladders.{in-table}
 use Rattle.room.specs.Layout.{size, store}
-use Rattle.setup.specs.Outcome.{Outcome, setupGiven}
+use Rattle.setup.specs.SetUp.{SetUp, setupGiven}
 use Rattle.store.specs.Face.{Stepped, sound, stepAnswer, no-word}
 
 -- the number that an answer gives, 0 where nothing is turned away
@@ -42,7 +42,7 @@ step-unchanged {r} {code} {a} {b} {c} {x} {late} s n =
     record { words = rw e at (s .room); zeros = ap numbers q ∙ ap (λ (k : ℕ). triple k 0 0) (sym (ap given q)) })
 
 -- a setup's number: 1 for a room of another length, else the page's
-pub setup-gives : {r masks homes : List ℕ} {x : Answer} {late : List ℕ} → Outcome r masks homes x late
+pub setup-gives : {r masks homes : List ℕ} {x : Answer} {late : List ℕ} → SetUp r masks homes x late
     → given x ≡ cond (eqb (length r) size) (setupRefusal masks homes) 1
 unfolding setupAnswer
 setup-gives {r} {masks} {homes} o =
@@ -52,7 +52,7 @@ setup-gives {r} {masks} {homes} o =
     (λ e. rw e)
 
 -- A setup that is turned away.
-pub setup-unchanged : {r masks homes : List ℕ} {x : Answer} {late : List ℕ} → Outcome r masks homes x late → (given x ≡ 0 → ⊥)
+pub setup-unchanged : {r masks homes : List ℕ} {x : Answer} {late : List ℕ} → SetUp r masks homes x late → (given x ≡ 0 → ⊥)
     → Unchanged r x late
 unfolding setupAnswer
 setup-unchanged {r} {masks} {homes} {x} o n =

@@ -14,10 +14,10 @@ use Rattle.book.specs.WellFormed.{wellFormed}
 use Rattle.bounds.specs.WellFormedKept.{setup-formed}
 use Rattle.room.specs.Layout.{size, store}
 use Rattle.room.specs.Lay.{lay, length-lay}
-use Rattle.setup.specs.Outcome.{Outcome}
+use Rattle.setup.specs.SetUp.{SetUp}
 use Rattle.script.specs.Printout.{before, lineOf, refused, countedFrom, setupFrom, setup-refused}
 
-module _ (r masks homes text : List ℕ) (at : ℕ) (fits : length r ≡ size) {x : Answer} {left : List ℕ} (o : Outcome r masks homes x left) where
+module _ (r masks homes text : List ℕ) (at : ℕ) (fits : length r ≡ size) {x : Answer} {left : List ℕ} (o : SetUp r masks homes x left) where
   given : x ≡ setupAnswer masks homes
   given = rw (eq-eqb (length r) size fits) at (o .answer)
 

@@ -18,7 +18,7 @@ use Rattle.scan.specs.Number.{countMax, countAt, either, count-within}
 use Rattle.scan.specs.Groups.{onFour, by-number, fourAt, four-within}
 use Rattle.scan.specs.Sections.{onSection, sectionAt, SectionWithin, section-within}
 use Rattle.ink.specs.Decimal.{lineMax, scriptMax, length-line, length-script}
-use Rattle.ink.specs.Written.{Room}
+use Rattle.ink.specs.Written.{Fits}
 use Rattle.book.specs.Sizes.{hallsMax, sessionsMax}
 use Rattle.book.specs.Cells.{Store}
 use Rattle.book.specs.Cases.{by-test}
@@ -126,5 +126,5 @@ outcome-short text σ =
     (λ e. rw e (halls-short text (ltb-false textMax (length text) e) σ))
 
 -- so a buffer of that length has room for every printout
-pub outcome-fits : (text : List ℕ) (σ : Store) (out : List ℕ) → capacity ≤ length out → Room out 0 (outcome text σ .bytes)
+pub outcome-fits : (text : List ℕ) (σ : Store) (out : List ℕ) → capacity ≤ length out → Fits out 0 (outcome text σ .bytes)
 outcome-fits text σ out h = record { enough = omega (arith, outcome-short text σ) }

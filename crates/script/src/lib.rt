@@ -6,7 +6,7 @@ ghost use lib.ListN.{length};
 ghost use Rattle.book.specs.Answers.{numbers};
 ghost use Rattle.book.specs.WellFormed.{wellFormed};
 ghost use Rattle.room.specs.Layout.{size, store};
-ghost use Rattle.ink.specs.Written.{Written, Room};
+ghost use Rattle.ink.specs.Written.{Written, Fits};
 ghost use Rattle.script.specs.Printout.{lineOf, stepsFrom, countedFrom, setupFrom, sessionsFrom, hallsFrom, outcome};
 ghost use Rattle.script.specs.Length.{capacity};
 ghost use Rattle.script.specs.Run.{Done, Ran};
@@ -24,7 +24,7 @@ pub const CAPACITY: usize = 400063;
 
 // The line of step i.
 fn put_answer(out: &mut [u8], at: usize, i: u64, x: Answer) -> usize
-    requires { ⌜ Room (now out) at (lineOf i (numbers x)) ⌝ }
+    requires { ⌜ Fits (now out) at (lineOf i (numbers x)) ⌝ }
     ensures { λ r. ⌜ Written (now (out .entry)) at (lineOf i (numbers x)) (now (out .exit)) r ⌝ }
 {
     let n = answers::numbers(x);
@@ -41,7 +41,7 @@ fn steps(
     from: usize,
 ) -> usize
     requires { ⌜ (length (now room) ≡ size) × (wellFormed (store (now room)) ≡ true) × (count ≤ 8000)
-        × Room (now out) start (stepsFrom count 1 (now text) from (store (now room)) .bytes) ⌝ }
+        × Fits (now out) start (stepsFrom count 1 (now text) from (store (now room)) .bytes) ⌝ }
     ensures { λ r. ⌜ Done (stepsFrom count 1 (now (text .entry)) from (store (now (room .entry)))) start (now (out .entry)) (now (out .exit)) r (now (room .exit)) ⌝ }
 {
     let mut at = from;
@@ -71,7 +71,7 @@ fn steps(
 // The step count.
 fn counted(text: &[u8], room: &mut [u64], out: &mut [u8], start: usize, from: usize) -> usize
     requires { ⌜ (length (now room) ≡ size) × (wellFormed (store (now room)) ≡ true)
-        × Room (now out) start (countedFrom (now text) from (store (now room)) .bytes) ⌝ }
+        × Fits (now out) start (countedFrom (now text) from (store (now room)) .bytes) ⌝ }
     ensures { λ r. ⌜ Done (countedFrom (now (text .entry)) from (store (now (room .entry)))) start (now (out .entry)) (now (out .exit)) r (now (room .exit)) ⌝ }
 {
     match scan::read_count(text, Cursor { at: from }) {
@@ -92,7 +92,7 @@ fn set_up(
     out: &mut [u8],
     from: usize,
 ) -> usize
-    requires { ⌜ (length (now room) ≡ size) × Room (now out) 0 (setupFrom (now masks) (now homes) (now text) from (store (now room)) .bytes) ⌝ }
+    requires { ⌜ (length (now room) ≡ size) × Fits (now out) 0 (setupFrom (now masks) (now homes) (now text) from (store (now room)) .bytes) ⌝ }
     ensures { λ r. ⌜ Done (setupFrom (now (masks .entry)) (now (homes .entry)) (now (text .entry)) from (store (now (room .entry)))) 0 (now (out .entry)) (now (out .exit)) r (now (room .exit)) ⌝ }
 {
     let x = setup::setup(room, masks, homes);
@@ -105,7 +105,7 @@ fn set_up(
 
 // The sessions' homes.
 fn sessions(text: &[u8], masks: &[u64], room: &mut [u64], out: &mut [u8], from: usize) -> usize
-    requires { ⌜ (length (now room) ≡ size) × Room (now out) 0 (sessionsFrom (now masks) (now text) from (store (now room)) .bytes) ⌝ }
+    requires { ⌜ (length (now room) ≡ size) × Fits (now out) 0 (sessionsFrom (now masks) (now text) from (store (now room)) .bytes) ⌝ }
     ensures { λ r. ⌜ Done (sessionsFrom (now (masks .entry)) (now (text .entry)) from (store (now (room .entry)))) 0 (now (out .entry)) (now (out .exit)) r (now (room .exit)) ⌝ }
 {
     let mut homes = [0u64; 2 * SESSIONS_MAX];
@@ -127,7 +127,7 @@ fn sessions(text: &[u8], masks: &[u64], room: &mut [u64], out: &mut [u8], from: 
 
 // The halls' masks.
 fn halls(text: &[u8], room: &mut [u64], out: &mut [u8]) -> usize
-    requires { ⌜ (length (now room) ≡ size) × Room (now out) 0 (hallsFrom (now text) (store (now room)) .bytes) ⌝ }
+    requires { ⌜ (length (now room) ≡ size) × Fits (now out) 0 (hallsFrom (now text) (store (now room)) .bytes) ⌝ }
     ensures { λ r. ⌜ Done (hallsFrom (now (text .entry)) (store (now (room .entry)))) 0 (now (out .entry)) (now (out .exit)) r (now (room .exit)) ⌝ }
 {
     let mut masks = [0u64; HALLS_MAX];

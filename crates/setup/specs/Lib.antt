@@ -1,4 +1,4 @@
-pub mod Outcome
+pub mod SetUp
 pub mod Rows
 pub mod Copies
 pub mod Laid

@@ -8,7 +8,7 @@ ghost use Rattle.book.specs.Folds.{count};
 ghost use Rattle.book.specs.Servers.{holds};
 ghost use Rattle.book.specs.Setup.{firstStore, servers};
 ghost use Rattle.room.specs.Layout.{size, Within, store};
-ghost use Rattle.setup.specs.Outcome.{Outcome};
+ghost use Rattle.setup.specs.SetUp.{SetUp};
 ghost use Rattle.setup.specs.Rows.{row};
 use book::Answer;
 use book::HALLS_MAX;
@@ -88,7 +88,7 @@ fn copy(room: &mut [u64], fresh: &[u64])
 }
 
 pub fn setup(room: &mut [u64], masks: &[u64], homes: &[u64]) -> Answer
-    ensures { λ r. ⌜ Outcome (now (room .entry)) (now (masks .entry)) (now (homes .entry)) r (now (room .exit)) ⌝ }
+    ensures { λ r. ⌜ SetUp (now (room .entry)) (now (masks .entry)) (now (homes .entry)) r (now (room .exit)) ⌝ }
 {
     if room.len() != SIZE {
         return Answer::Refused(1);

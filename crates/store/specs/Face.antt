@@ -37,7 +37,7 @@ pub record Stepped (r : List ℕ) (code a b c : ℕ) (x : Answer) (late : List �
   pub store : store late ≡ stepStore r code a b c
 
 -- the same of a room that is known to be well formed, and stays so
-pub record Moved (r : List ℕ) (code a b c : ℕ) (x : Answer) (late : List ℕ) : Type 0 where
+pub record Inner (r : List ℕ) (code a b c : ℕ) (x : Answer) (late : List ℕ) : Type 0 where
   pub size : length late ≡ size
   pub formed : wellFormed (store late) ≡ true
   pub answer : x ≡ answer (store r) code a b c
@@ -49,7 +49,7 @@ pub one-outcome : {r : List ℕ} {code a b c : ℕ} {x y : Answer} {late later :
 one-outcome s t = (s .answer ∙ sym (t .answer), s .room ∙ sym (t .room))
 
 pub one-outcome-inner : {r : List ℕ} {code a b c : ℕ} {x y : Answer} {late later : List ℕ}
-    → Moved r code a b c x late → Moved r code a b c y later → (x ≡ y) × (late ≡ later)
+    → Inner r code a b c x late → Inner r code a b c y later → (x ≡ y) × (late ≡ later)
 one-outcome-inner {late = late} {later = later} s t =
     (s .answer ∙ sym (t .answer), onto late later (s .size) (t .size) (s .store ∙ sym (t .store)))
 
@@ -67,7 +67,7 @@ unfolding answer after
 taken σ code a b c e = (rw (eq-eqb (refusal σ code a b c) 0 e), rw (eq-eqb (refusal σ code a b c) 0 e))
 
 -- the inner step's promise is the public one's, where the room is sound
-pub moved-stepped : {r : List ℕ} {code a b c : ℕ} {x : Answer} {late : List ℕ} → sound r ≡ true → Moved r code a b c x late → Stepped r code a b c x late
+pub moved-stepped : {r : List ℕ} {code a b c : ℕ} {x : Answer} {late : List ℕ} → sound r ≡ true → Inner r code a b c x late → Stepped r code a b c x late
 moved-stepped {late = late} e m =
     record { answer = rw e (m .answer); room = rw e (sym (lay-store late (m .size)) ∙ ap lay (m .store)); store = rw e (m .store) }
 

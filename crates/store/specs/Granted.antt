@@ -21,7 +21,7 @@ use Rattle.views.specs.Partitions.{Parted}
 use Rattle.sessions.specs.Starting.{Homed}
 use Rattle.servers.specs.Numbers.{Numbered}
 use Rattle.commits.specs.Safe.{Coordinated, Timely, Writing}
-use Rattle.replication.specs.Safe.{Coordinated as AllCoordinated, Channel, Timely as AllTimely}
+use Rattle.replication.specs.Safe.{AllCoordinated, Channel, AllTimely}
 
 module _ (σ : Store) (w : wellFormed σ ≡ true) where
   facts : Formed σ

@@ -5,7 +5,7 @@ ghost use lib.ListN.{length};
 ghost use Rattle.book.specs.WellFormed.{wellFormed};
 ghost use Rattle.book.specs.Steps.{ruleOf, refusal};
 ghost use Rattle.room.specs.Layout.{size, store};
-ghost use Rattle.store.specs.Face.{Stepped, Moved};
+ghost use Rattle.store.specs.Face.{Stepped, Inner};
 use book::Answer;
 use book::Reading;
 use book::TxNumber;
@@ -37,7 +37,7 @@ fn act(room: &mut [u64], code: u64, a: u64, b: u64, c: u64) -> Answer
 // A step on a room that is well formed, as every room is that setup made and steps changed.
 pub fn step_inner(room: &mut [u64], code: u64, a: u64, b: u64, c: u64) -> Answer
     requires { ⌜ (length (now room) ≡ size) × (wellFormed (store (now room)) ≡ true) ⌝ }
-    ensures { λ r. ⌜ Moved (now (room .entry)) code a b c r (now (room .exit)) ⌝ }
+    ensures { λ r. ⌜ Inner (now (room .entry)) code a b c r (now (room .exit)) ⌝ }
 {
     let n = ladders::refusal(room, code, a, b, c);
     if n != 0 {

@@ -76,9 +76,9 @@ pub fn version_at(room: &[u64], k: usize, t: usize) -> View
 }
 
 // Hall h's server of key k's partition p holds what the transaction at place t wrote to it, at or below S.
-fn visible(room: &[u64], h: usize, p: usize, k: usize, s: Timestamp, t: usize) -> bool
+fn visible(room: &[u64], h: usize, p: usize, k: usize, snapshot: Timestamp, t: usize) -> bool
     requires { ⌜ Looks (now room) h p k t ⌝ }
-    ensures { λ r. ⌜ r ≡ (versionsOf (store (now (room .entry))) h k t && wroteBy (store (now (room .entry))) k (s .0) t) ⌝ }
+    ensures { λ r. ⌜ r ≡ (versionsOf (store (now (room .entry))) h k t && wroteBy (store (now (room .entry))) k (snapshot .0) t) ⌝ }
 {
     if room::get(room, HELD, h, p, t, 0) != 1 {
         return false;
@@ -86,15 +86,23 @@ fn visible(room: &[u64], h: usize, p: usize, k: usize, s: Timestamp, t: usize) -
     if !masks::has(room::get(room, KEY_SET, t, 0, 0, 0), k as u64) {
         return false;
     }
-    room::get(room, COMMIT_TIME, t, 0, 0, 0) <= s.0
+    room::get(room, COMMIT_TIME, t, 0, 0, 0) <= snapshot.0
 }
 
 // The view so far, with what the transaction at place t adds to it.
-fn join(room: &[u64], h: usize, p: usize, k: usize, s: Timestamp, t: usize, sofar: View) -> View
+fn join(
+    room: &[u64],
+    h: usize,
+    p: usize,
+    k: usize,
+    snapshot: Timestamp,
+    t: usize,
+    sofar: View,
+) -> View
     requires { ⌜ Looks (now room) h p k t ⌝ }
-    ensures { λ r. ⌜ r ≡ joined (store (now (room .entry))) h k (s .0) t sofar ⌝ }
+    ensures { λ r. ⌜ r ≡ joined (store (now (room .entry))) h k (snapshot .0) t sofar ⌝ }
 {
-    if visible(room, h, p, k, s, t) {
+    if visible(room, h, p, k, snapshot, t) {
         merge(sofar, version_at(room, k, t))
     } else {
         sofar
@@ -102,14 +110,14 @@ fn join(room: &[u64], h: usize, p: usize, k: usize, s: Timestamp, t: usize, sofa
 }
 
 // What hall h's server knows of key k at S.
-pub fn held_view(room: &[u64], h: usize, k: usize, s: Timestamp) -> View
+pub fn held_view(room: &[u64], h: usize, k: usize, snapshot: Timestamp) -> View
     requires { ⌜ (length (now room) ≡ size) × Parted (store (now room)) × (h < hallsMax) × (k < keys) ⌝ }
-    ensures { λ r. ⌜ r ≡ heldView (store (now (room .entry))) h k (s .0) ⌝ }
+    ensures { λ r. ⌜ r ≡ heldView (store (now (room .entry))) h k (snapshot .0) ⌝ }
 {
     let p = partition_of(room, k);
     let mut sofar = View::Nothing;
     for t in 0..PLACES_MAX {
-        sofar = join(room, h, p, k, s, t, sofar);
+        sofar = join(room, h, p, k, snapshot, t, sofar);
     }
     sofar
 }

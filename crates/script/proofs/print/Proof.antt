@@ -2,7 +2,7 @@ use mathlib.Core.Path.{_≡_}
 use borrow.Author.Needs.{needs}
 use borrow.Author.Tests.{lt-ltb, le-ltb}
 use Rattle.room.specs.Layout.{store}
-use Rattle.ink.specs.Written.{Room}
+use Rattle.ink.specs.Written.{Fits}
 use Rattle.script.specs.Printout.{textMax, stop, hallsFrom, outcome, outcome-is}
 use Rattle.script.specs.Length.{outcome-fits}
 use Rattle.script.specs.Run.{ends}
@@ -15,7 +15,7 @@ long c = let a = c .before .before .before .before .args in rw (outcome-is (a .t
 fits : (c : tie.Else1) → let a = c .before .before .before .before .args in outcome (a .text .now) (store (a .room .now)) ≡ hallsFrom (a .text .now) (store (a .room .now))
 fits c = let a = c .before .before .before .before .args in rw (outcome-is (a .text .now) (store (a .room .now)), le-ltb _ _ (c .if1 .left))
 
-all : (c : tie.Start) → Room (c .args .out .now) 0 (outcome (c .args .text .now) (store (c .args .room .now)) .bytes)
+all : (c : tie.Start) → Fits (c .args .out .now) 0 (outcome (c .args .text .now) (store (c .args .room .now)) .bytes)
 all c = outcome-fits _ _ _ (c .pre .1)
 
 pub print-spec : {M : Type 1} → statement M

@@ -3,10 +3,10 @@ use mathlib.Core.List.{List}
 use mathlib.Core.Path.{_≡_}
 use native.Mathlib.Omega.{arith}
 use Rattle.book.specs.Sizes.{hallsMax, partitionsMax}
-use Rattle.book.specs.Folds.{count, sum}
+use Rattle.book.specs.Folds.{count, sum, sum-most}
 use Rattle.book.specs.Servers.{holds}
 use Rattle.room.specs.Layout.{store}
-use Rattle.room.specs.Loops.{sum-next, count-le, sum-le}
+use Rattle.room.specs.Loops.{sum-next, count-le}
 use Rattle.formed.specs.Counts.{sum-none}
 use borrow.Author.Needs.{needs}
 use Rattle.setup.proofs.all_servers.Statement.{statement}
@@ -33,7 +33,7 @@ all-servers-spec =
     (λ c. (search needs, sum-none _))
     (λ c κs. search needs)
     (λ c. let r = c .before .before .before .before .args .room .now in
-    let h = c .before .before .loop .h in omega (arith, sum-le h partitionsMax (ofHall r) (few r), few r h))
+    let h = c .before .before .loop .h in omega (arith, sum-most h partitionsMax (ofHall r) (few r), few r h))
     (λ c. search needs)
     (λ c. search needs)
     (λ c. (search needs, rw (sum-next, ← (c .before .before .loop .inv .1), c .servers-of .ensures)))

@@ -1,7 +1,7 @@
 use mathlib.Core.Path.{sym, ap, _∙_}
 use borrow.Author.Tests.{not-true, not-false}
 use Rattle.room.specs.Lay.{lay, lay-store}
-use Rattle.setup.specs.Outcome.{other-size, odd-homes, bad-numbers, good-numbers}
+use Rattle.setup.specs.SetUp.{other-size, odd-homes, bad-numbers, good-numbers}
 use Rattle.setup.specs.Rows.{zeros-store}
 use borrow.Author.Needs.{needs}
 use Rattle.setup.proofs.setup.Statement.{statement}

@@ -27,30 +27,30 @@ abbrev pub setupStore : List ℕ → List ℕ → List ℕ → Store
 setupStore r masks homes = cond (eqb (length r) size && eqb (setupRefusal masks homes) 0) (firstStore masks homes) (store r)
 
 -- what the contract asks of an answer x and of the room left
-pub record Outcome (r masks homes : List ℕ) (x : Answer) (left : List ℕ) : Type 0 where
+pub record SetUp (r masks homes : List ℕ) (x : Answer) (left : List ℕ) : Type 0 where
   pub answer : x ≡ setupGiven r masks homes
   pub room : left ≡ setupRoom r masks homes
   pub store : store left ≡ setupStore r masks homes
 
 -- No second outcome fits.
 pub setup-one-outcome : {r masks homes : List ℕ} {x y : Answer} {left late : List ℕ}
-    → Outcome r masks homes x left → Outcome r masks homes y late → (x ≡ y) × (left ≡ late)
+    → SetUp r masks homes x left → SetUp r masks homes y late → (x ≡ y) × (left ≡ late)
 setup-one-outcome s t = (s .answer ∙ sym (t .answer), s .room ∙ sym (t .room))
 
 -- the four ways that a setup ends
 module _ (r masks homes : List ℕ) where
-  pub other-size : (length r ≡ size → ⊥) → Outcome r masks homes (Refused 1) r
+  pub other-size : (length r ≡ size → ⊥) → SetUp r masks homes (Refused 1) r
   other-size e = let f = ne-eqb (length r) size e in record { answer = rw f; room = rw f; store = rw f }
 
   module _ (fits : length r ≡ size) where
-    pub odd-homes : (length homes % 2 ≡ 0 → ⊥) → Outcome r masks homes (Refused 2) r
+    pub odd-homes : (length homes % 2 ≡ 0 → ⊥) → SetUp r masks homes (Refused 2) r
     unfolding setupAnswer setupRefusal
     odd-homes e =
         let f = eq-eqb (length r) size fits in
         let g = ne-eqb (length homes % 2) 0 e in
         record { answer = rw (f, g); room = rw (f, g); store = rw (f, g) }
 
-    pub bad-numbers : length homes % 2 ≡ 0 → goodSetup (firstStore masks homes) ≡ false → Outcome r masks homes (Refused 2) r
+    pub bad-numbers : length homes % 2 ≡ 0 → goodSetup (firstStore masks homes) ≡ false → SetUp r masks homes (Refused 2) r
     unfolding setupAnswer setupRefusal
     bad-numbers e b =
         let f = eq-eqb (length r) size fits in
@@ -58,7 +58,7 @@ module _ (r masks homes : List ℕ) where
         record { answer = rw (f, g, b); room = rw (f, g, b); store = rw (f, g, b) }
 
     pub good-numbers : length homes % 2 ≡ 0 → goodSetup (firstStore masks homes) ≡ true
-        → Outcome r masks homes (Answered (firstStore masks homes Partitions) (servers (firstStore masks homes))) (lay (firstStore masks homes))
+        → SetUp r masks homes (Answered (firstStore masks homes Partitions) (servers (firstStore masks homes))) (lay (firstStore masks homes))
     unfolding setupAnswer setupRefusal
     good-numbers e b =
         let f = eq-eqb (length r) size fits in
