@@ -80,7 +80,7 @@ asked-next n σ t m q e =
     (ahead (states t) (λ d. touches σ m (d .j)) (λ d. asked) n n σ (omega arith))
     ∙ next (states t) _ _ n σ
 
--- no key is of a partition from 4 on
+-- no key is of a partition past the last
 touches-beyond : (σ : Store) (m p : ℕ) → Parted σ → partitionsMax ≤ p → touches σ m p ≡ true → ⊥
 touches-beyond σ m p h l e =
     let w = any-true keys (λ k. member m k && eqb (partitionOf σ k) p) e in

@@ -9,19 +9,12 @@ use Rattle.sessions.specs.Starting.{cleanedTo, cleaned-none, cleaned-nex
 use Rattle.sessions.proofs.clean_cache.Statement.{statement}
 use Rattle.sessions.proofs.clean_cache.Tie as tie
 
-abbrev Inv-loop : tie.InvT-loop
-Inv-loop room₀ s snapshot k₀ room k =
-    (k ≤ keys) × (length room ≡ length room₀) × (store room ≡ cleanedTo k (store room₀) s (snapshot .0))
-
-abbrev μ-loop : tie.MeasureT-loop
-μ-loop room₀ s snapshot k₀ room k = keys - k
-
 pub clean-cache-spec : {M : Type 1} → statement M
 clean-cache-spec =
     tie.close
     (tie.spec
-    Inv-loop
-    μ-loop
+    (λ room₀ s snapshot k₀ room k. (k ≤ keys) × (length room ≡ length room₀) × (store room ≡ cleanedTo k (store room₀) s (snapshot .0)))
+    (λ room₀ s snapshot k₀ room k. keys - k)
     (λ c. (search needs, refl, sym (cleaned-none _ _ _)))
     (λ c κs. search needs)
     (λ c. search needs)

@@ -9,19 +9,12 @@ use Rattle.sessions.specs.Asking.{copiedTo, copied-none, copied-next, co
 use Rattle.sessions.proofs.copy_values.Statement.{statement}
 use Rattle.sessions.proofs.copy_values.Tie as tie
 
-abbrev Inv-loop : tie.InvT-loop
-Inv-loop room₀ s t k₀ room k =
-    (k ≤ keys) × (length room ≡ length room₀) × (store room ≡ copiedTo k (store room₀) s t)
-
-abbrev μ-loop : tie.MeasureT-loop
-μ-loop room₀ s t k₀ room k = keys - k
-
 pub copy-values-spec : {M : Type 1} → statement M
 copy-values-spec =
     tie.close
     (tie.spec
-    Inv-loop
-    μ-loop
+    (λ room₀ s t k₀ room k. (k ≤ keys) × (length room ≡ length room₀) × (store room ≡ copiedTo k (store room₀) s t))
+    (λ room₀ s t k₀ room k. keys - k)
     (λ c. (search needs, refl, sym (copied-none _ _ _)))
     (λ c κs. search needs)
     (λ c. search needs)
