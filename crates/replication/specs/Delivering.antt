@@ -1,16 +1,21 @@
 -- The parts of a delivery, one after the other, and the book's rule.
-use Prim.Native.Nat.{ℕ, zero, suc, _-_, _<_}
-use mathlib.Core.Bool.{false}
-use mathlib.Core.Path.{_≡_, refl, sym, ap, _∙_}
+use Prim.Native.Nat.{ℕ, _-_, _<_}
+use mathlib.Core.Bool.{true, _&&_, true≢false}
+use mathlib.Core.Path.{_≡_, refl, sym, ap, subst, _∙_}
 use native.Mathlib.Omega.{arith}
-use lib.Dec.{eqb}
+use lib.Dec.{eqb, ltb}
+use lib.Seq.{getD-set-same, getD-set-other}
+use borrow.Author.Tests.{ltb-true, lt-ltb}
+use Rattle.book.specs.declared.Timestamp.{Timestamp}
+use Rattle.book.specs.declared.Vector.{Vector}
 use Rattle.book.specs.Sizes.{hallsMax, slots}
-use Rattle.book.specs.Cells.{Store, _⟨_≔_⟩, Entry, Held, First, Waiting}
-use Rattle.book.specs.Cases.{eqb-refl}
-use Rattle.book.specs.Updates.{keep, upd, commute}
+use Rattle.book.specs.Cells.{Cell, Store, _⟨_≔_⟩, Entry, Held, First, Waiting}
+use Rattle.book.specs.Cases.{by-test, by-eq, eqb-refl}
+use Rattle.book.specs.Updates.{is, is-own, one-cell, upd, commute}
 use Rattle.book.specs.ReplicationSteps.{slotOf, clockCarried, setCarried, deliver}
+use Rattle.room.specs.Bulk.{row3k}
 use Rattle.room.specs.Stretch.{heldAll, withEntries}
-use Rattle.vectors.specs.Vectors.{time, vectorOf, updatedAt}
+use Rattle.vectors.specs.Vectors.{time, vectorOf, entry-of, updatedAt}
 use Rattle.replication.specs.declared.Message.{Message}
 
 -- the oldest message of the channel to g for p from f
@@ -25,22 +30,35 @@ first-slot σ p f g l = omega arith
 abbrev pub freed : Store → ℕ → ℕ → ℕ → Store
 freed σ p f g = σ ⟨ First g p f ≔ slotOf σ g p f 1 ⟩ ⟨ Waiting g p f ≔ σ (Waiting g p f) - 1 ⟩
 
-module _ (σ : Store) (h p x : ℕ) where
-  -- an entry other than hall f's, put back as it was
-  unchanged : (f g : ℕ) → eqb f g ≡ false → σ ⟨ Entry h p f ≔ x ⟩ ⟨ Entry h p g ≔ σ (Entry h p g) ⟩ ≡ σ ⟨ Entry h p f ≔ x ⟩
-  unchanged f g e =
-      let q : (σ ⟨ Entry h p f ≔ x ⟩) (Entry h p g) ≡ σ (Entry h p g) = simp (eqb-refl, e) in
-      ap (λ (v : ℕ). σ ⟨ Entry h p f ≔ x ⟩ ⟨ Entry h p g ≔ v ⟩) (sym q) ∙ keep (σ ⟨ Entry h p f ≔ x ⟩) (Entry h p g)
+module _ (σ : Store) (h p x f : ℕ) (l : f < hallsMax) where
+  abbrev heard : Vector
+  heard = updatedAt (vectorOf σ h p) f (time x)
+
+  at-entry : (g : ℕ) → withEntries heard h p σ (Entry h p g) ≡ (σ ⟨ Entry h p f ≔ x ⟩) (Entry h p g)
+  at-entry g =
+      rw (eqb-refl h, eqb-refl p)
+      (by-eq f g
+      (λ q e. rw (e, lt-ltb g hallsMax (rw q at l), ← q)
+      (ap (λ (y : Timestamp). y .0) (getD-set-same (vectorOf σ h p .times) f (time x) (time 0) l)))
+      (λ q e. rw e
+      (by-test (ltb g hallsMax)
+      (λ m. rw m
+      (ap (λ (y : Timestamp). y .0) (getD-set-other (vectorOf σ h p .times) f g (time x) (time 0) (λ r. q (sym r)))
+      ∙ entry-of σ h p g (ltb-true g hallsMax m)))
+      (λ m. rw m))))
+
+  each : (d : Cell) → withEntries heard h p σ d ≡ (σ ⟨ Entry h p f ≔ x ⟩) d
+  each d =
+      by-test (is (Entry h p (d .k)) d)
+      (λ e. subst (λ (c : Cell). withEntries heard h p σ c ≡ (σ ⟨ Entry h p f ≔ x ⟩) c) (one-cell (Entry h p (d .k)) d e) (at-entry (d .k)))
+      (λ e. rw (row3k (Entry 0 0 0 .kind) h p .only (λ c. ltb (c .k) hallsMax && true) d, e)
+      (by-test (is (Entry h p f) d)
+      (λ q. absurd (true≢false (sym (is-own (Entry h p f)) ∙ rw (← (one-cell (Entry h p f) d q)) at e)))
+      (λ q. rw q)))
 
   -- server (h, p)'s vector, updated at hall f's place and put back, is one entry
-  one-entry : (f : ℕ) → f < hallsMax → withEntries (updatedAt (vectorOf σ h p) f (time x)) h p σ ≡ σ ⟨ Entry h p f ≔ x ⟩
-  one-entry zero l = upd _ _ (upd _ _ (unchanged 0 1 refl) ∙ unchanged 0 2 refl) ∙ unchanged 0 3 refl
-  one-entry (suc zero) l = upd _ _ (upd _ _ (upd _ _ (keep σ (Entry h p 0))) ∙ unchanged 1 2 refl) ∙ unchanged 1 3 refl
-  one-entry (suc (suc zero)) l =
-      upd _ _ (upd _ _ (upd _ _ (keep σ (Entry h p 0)) ∙ keep σ (Entry h p 1))) ∙ unchanged 2 3 refl
-  one-entry (suc (suc (suc zero))) l =
-      upd _ _ (upd _ _ (upd _ _ (keep σ (Entry h p 0)) ∙ keep σ (Entry h p 1)) ∙ keep σ (Entry h p 2))
-  one-entry (suc (suc (suc (suc f)))) l = absurd (omega arith)
+  one-entry : withEntries heard h p σ ≡ σ ⟨ Entry h p f ≔ x ⟩
+  one-entry = λ i d. each d i
 
 -- the receiving server's stretch first, then the channel
 pub all-parts : (σ : Store) (p f g : ℕ) → f < hallsMax

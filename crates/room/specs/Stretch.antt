@@ -225,13 +225,8 @@ entryOf v g = getD (v .times) g (record { 0 = 0 }) .0
 
 -- server (h, p)'s entries from a version vector
 abbrev pub withEntries : Vector → ℕ → ℕ → Store → Store
-withEntries v h p σ =
-    σ ⟨ Entry h p 0 ≔ entryOf v 0 ⟩ ⟨ Entry h p 1 ≔ entryOf v 1 ⟩ ⟨ Entry h p 2 ≔ entryOf v 2 ⟩ ⟨ Entry h p 3 ≔ entryOf v 3 ⟩
+withEntries v h p σ = upTo (row3k (Entry 0 0 0 .kind) h p) (λ d. true) (λ d. entryOf v (d .k)) hallsMax σ
 
 pub keeps-entries : (v : Vector) (h p : ℕ) → h < hallsMax → p < partitionsMax → Keeps h p (withEntries v h p)
 keeps-entries v h p hh hp =
-    let entry : (g x : ℕ) → g < hallsMax → Keeps h p (λ σ. σ ⟨ Entry h p g ≔ x ⟩)
-    = λ g x l. keeps-put h p (Entry h p g) x (omega arith) in
-    keeps-then h p _ _ (entry 3 (entryOf v 3) (omega arith))
-    (keeps-then h p _ _ (entry 2 (entryOf v 2) (omega arith))
-    (keeps-then h p _ _ (entry 1 (entryOf v 1) (omega arith)) (entry 0 (entryOf v 0) (omega arith))))
+    keeps-row h p (row3k (Entry 0 0 0 .kind) h p) (λ d. true) (λ d. entryOf v (d .k)) hallsMax (λ g l. omega arith)

@@ -13,6 +13,7 @@ use crate::HELD;
 use crate::HYBRID;
 use crate::SERVER_WORDS;
 use crate::SERVERS_AT;
+use book::HALLS_MAX;
 use book::PARTITIONS_MAX;
 use book::PLACES_MAX;
 use book::Timestamp;
@@ -52,10 +53,9 @@ fn set_entries(part: &mut [u64], v: Vector)
     ensures { λ r. ⌜ Changed (withEntries v) (now (part .entry)) (now (part .exit)) ⌝ }
 {
     let times = v.times;
-    set_entry(part, 0, times[0]);
-    set_entry(part, 1, times[1]);
-    set_entry(part, 2, times[2]);
-    set_entry(part, 3, times[3]);
+    for g in 0..HALLS_MAX {
+        set_entry(part, g, times[g]);
+    }
 }
 
 fn hold_if(part: &mut [u64], test: bool, t: usize)

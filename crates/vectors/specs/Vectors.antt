@@ -1,8 +1,9 @@
 -- "a version vector with one entry per hall holding its partition": taken from a store, asked for its lowest, updated at a place.
-use Prim.Native.Nat.{ℕ}
+use Prim.Native.Nat.{ℕ, zero, suc, _<_}
 use mathlib.Core.Bool.{Bool}
-use mathlib.Core.Path.{_≡_, ap}
+use mathlib.Core.Path.{_≡_, refl, ap}
 use mathlib.Core.List.{[], _∷_}
+use native.Mathlib.Omega.{arith}
 use lib.ListN.{set}
 use Rattle.book.specs.declared.Timestamp.{Timestamp}
 use Rattle.book.specs.declared.Vector.{Vector}
@@ -23,6 +24,13 @@ vectorOf σ h p = record {
   times = time (σ (Entry h p 0)) ∷ time (σ (Entry h p 1)) ∷ time (σ (Entry h p 2)) ∷ time (σ (Entry h p 3)) ∷ [];
   holders = setOf hallsMax (λ g. holds σ g p);
 }
+
+pub entry-of : (σ : Store) (h p g : ℕ) → g < hallsMax → entryOf (vectorOf σ h p) g ≡ σ (Entry h p g)
+entry-of σ h p zero l = refl
+entry-of σ h p (suc zero) l = refl
+entry-of σ h p (suc (suc zero)) l = refl
+entry-of σ h p (suc (suc (suc zero))) l = refl
+entry-of σ h p (suc (suc (suc (suc g)))) l = absurd (omega arith)
 
 -- "the lowest entry of that server's vector"
 abbrev pub lowestTime : Vector → ℕ
