@@ -31,16 +31,37 @@ static u64 below(u64 n) { return draw() % n; }
 
 /* ---- The layout: docs/ROOM.md. Words that a state says nothing of stay as they are. ---- */
 
-enum { SERVER_WORDS = 71, SESSION_WORDS = 135, TRANSACTION_WORDS = 44, CHANNEL_WORDS = 18 };
-enum { SERVERS_AT = 8, SESSIONS_AT = 1144, TRANSACTIONS_AT = 3304, CHANNELS_AT = 6120, NOTES_AT = 7272 };
+/* Block by block: the word of each kind of cell in its block, and the words of the block. */
+enum { W_HALLS, W_PARTITIONS, W_SESSIONS, W_TRANSACTIONS, W_MASK, SETUP_WORDS = W_MASK + HALLS };
+enum { W_READING, W_HYBRID, W_STABLE, W_ENTRY, W_HELD = W_ENTRY + HALLS, SERVER_WORDS = W_HELD + REQUESTS };
+enum {
+    W_HOME_HALL, W_HOME_PARTITION, W_STATUS, W_SNAPSHOT, W_LAST_COMMIT, W_WRITE_SET, W_READ_SET, W_WRITE_VALUE,
+    W_READ_VALUE = W_WRITE_VALUE + KEYS, W_CACHE_VALUE = W_READ_VALUE + KEYS, W_CACHE_TIME = W_CACHE_VALUE + KEYS,
+    SESSION_WORDS = W_CACHE_TIME + KEYS
+};
+enum {
+    W_BY, W_FROM, W_COMMIT_TIME, W_KEY_SET, W_VALUE, W_STATE = W_VALUE + KEYS, W_PROPOSED = W_STATE + PARTITIONS,
+    TRANSACTION_WORDS = W_PROPOSED + PARTITIONS
+};
+enum { W_FIRST, W_WAITING, W_CLOCK_SENT, W_CARRIES = W_CLOCK_SENT + PLACES, CHANNEL_WORDS = W_CARRIES + PLACES };
+enum { W_NOTE, W_SHARED = W_NOTE + HALLS * PARTITIONS };
+
+/* The first word of the servers, the sessions, the transactions, the channels and the notes. */
+enum {
+    SERVERS_AT = SETUP_WORDS,
+    SESSIONS_AT = SERVERS_AT + HALLS * PARTITIONS * SERVER_WORDS,
+    TRANSACTIONS_AT = SESSIONS_AT + SESSIONS * SESSION_WORDS,
+    CHANNELS_AT = TRANSACTIONS_AT + REQUESTS * TRANSACTION_WORDS,
+    NOTES_AT = CHANNELS_AT + HALLS * PARTITIONS * HALLS * CHANNEL_WORDS
+};
 
 static void lay_server(u64 *w, const struct Server *server) {
-    w[0] = server->reading;
-    w[1] = server->hybrid;
-    w[2] = server->stable;
-    memcpy(&w[3], server->vector, sizeof server->vector);
+    w[W_READING] = server->reading;
+    w[W_HYBRID] = server->hybrid;
+    w[W_STABLE] = server->stable;
+    memcpy(&w[W_ENTRY], server->vector, sizeof server->vector);
     for (size_t i = 0; i < server->held; i++)
-        w[7 + server->versions[i].stamp.number - 1] = 1;
+        w[W_HELD + server->versions[i].stamp.number - 1] = 1;
 }
 
 static void lay_entries(u64 *set, u64 *values, const struct Entries *entries) {
@@ -52,79 +73,79 @@ static void lay_entries(u64 *set, u64 *values, const struct Entries *entries) {
 }
 
 static void lay_session(u64 *w, const struct Session *session) {
-    w[0] = session->home.hall;
-    w[1] = session->home.partition;
-    w[2] = session->phase; /* both number the phases alike, and the states below */
-    w[3] = session->snapshot;
-    w[4] = session->last_commit;
-    lay_entries(&w[5], &w[7], &session->write_set);
-    lay_entries(&w[6], &w[39], &session->read_set);
-    memset(&w[103], 0, KEYS * sizeof *w);
+    w[W_HOME_HALL] = session->home.hall;
+    w[W_HOME_PARTITION] = session->home.partition;
+    w[W_STATUS] = session->phase; /* both number the phases alike, and the states below */
+    w[W_SNAPSHOT] = session->snapshot;
+    w[W_LAST_COMMIT] = session->last_commit;
+    lay_entries(&w[W_WRITE_SET], &w[W_WRITE_VALUE], &session->write_set);
+    lay_entries(&w[W_READ_SET], &w[W_READ_VALUE], &session->read_set);
+    memset(&w[W_CACHE_TIME], 0, KEYS * sizeof *w);
     for (size_t i = 0; i < session->cache.count; i++) {
         const struct Entry *entry = &session->cache.list[i];
-        w[71 + entry->key] = entry->value;
-        w[103 + entry->key] = entry->time;
+        w[W_CACHE_VALUE + entry->key] = entry->value;
+        w[W_CACHE_TIME + entry->key] = entry->time;
     }
 }
 
 static void lay_transaction(u64 *w, const struct Transaction *transaction) {
-    w[0] = transaction->session;
-    w[1] = transaction->hall;
-    w[2] = transaction->commit_time;
-    lay_entries(&w[3], &w[4], &transaction->writes);
+    w[W_BY] = transaction->session;
+    w[W_FROM] = transaction->hall;
+    w[W_COMMIT_TIME] = transaction->commit_time;
+    lay_entries(&w[W_KEY_SET], &w[W_VALUE], &transaction->writes);
     for (size_t p = 0; p < PARTITIONS; p++) {
-        w[36 + p] = transaction->pairs[p].state;
-        w[40 + p] = transaction->pairs[p].proposed;
+        w[W_STATE + p] = transaction->pairs[p].state;
+        w[W_PROPOSED + p] = transaction->pairs[p].proposed;
     }
 }
 
 /* There was one step since the channel was last laid out: if fewer wait now, the oldest was taken. */
 static void lay_channel(u64 *w, const struct Channel *channel) {
-    if (channel->count < w[1])
-        w[0] = (w[0] + 1) % PLACES;
-    w[1] = channel->count;
+    if (channel->count < w[W_WAITING])
+        w[W_FIRST] = (w[W_FIRST] + 1) % PLACES;
+    w[W_WAITING] = channel->count;
     for (size_t i = 0; i < channel->count; i++) {
         const struct Message *message = &channel->list[i];
-        size_t slot = (w[0] + i) % PLACES;
+        size_t slot = (w[W_FIRST] + i) % PLACES;
         u64 set = 0;
         for (size_t n = 0; n < message->count; n++)
             set |= UINT64_C(1) << (message->numbers[n] - 1);
-        w[2 + slot] = message->clock;
-        w[10 + slot] = set;
+        w[W_CLOCK_SENT + slot] = message->clock;
+        w[W_CARRIES + slot] = set;
     }
 }
 
 static void lay_setup(u64 *w) {
-    w[0] = store.halls;
-    w[1] = store.partitions;
-    w[2] = store.sessions;
-    w[3] = store.requests;
+    w[W_HALLS] = store.halls;
+    w[W_PARTITIONS] = store.partitions;
+    w[W_SESSIONS] = store.sessions;
+    w[W_TRANSACTIONS] = store.requests;
     for (size_t h = 0; h < HALLS; h++)
-        w[4 + h] = store.hall[h].mask;
+        w[W_MASK + h] = store.hall[h].mask;
 }
 
 static void lay_notes(u64 *w) {
     for (size_t h = 0; h < HALLS; h++) {
-        memcpy(&w[4 * h], store.hall[h].reported, sizeof store.hall[h].reported);
-        memcpy(&w[16 + 4 * h], store.hall[h].shared, sizeof store.hall[h].shared);
+        memcpy(&w[W_NOTE + PARTITIONS * h], store.hall[h].reported, sizeof store.hall[h].reported);
+        memcpy(&w[W_SHARED + HALLS * h], store.hall[h].shared, sizeof store.hall[h].shared);
     }
 }
 
 static void lay(void) {
-    u64 laid = due[3]; /* transactions before the step */
+    u64 laid = due[W_TRANSACTIONS]; /* transactions before the step */
     lay_setup(due);
     for (size_t s = 0; s < SESSIONS; s++)
         lay_session(&due[SESSIONS_AT + SESSION_WORDS * s], &store.session[s]);
     for (size_t h = 0; h < HALLS; h++)
         for (size_t p = 0; p < PARTITIONS; p++) {
-            lay_server(&due[SERVERS_AT + SERVER_WORDS * (4 * h + p)], &store.server[h][p]);
+            lay_server(&due[SERVERS_AT + SERVER_WORDS * (PARTITIONS * h + p)], &store.server[h][p]);
             for (size_t f = 0; f < HALLS; f++)
-                lay_channel(&due[CHANNELS_AT + CHANNEL_WORDS * ((4 * h + p) * 4 + f)], &store.channel[p][f][h]);
+                lay_channel(&due[CHANNELS_AT + CHANNEL_WORDS * ((PARTITIONS * h + p) * HALLS + f)], &store.channel[p][f][h]);
         }
     for (size_t t = 0; t < store.requests; t++) {
         u64 *w = &due[TRANSACTIONS_AT + TRANSACTION_WORDS * t];
         if (t >= laid) /* "End copies all 32 words" */
-            memcpy(&w[4], &due[SESSIONS_AT + SESSION_WORDS * store.transaction[t].session + 7], KEYS * sizeof *w);
+            memcpy(&w[W_VALUE], &due[SESSIONS_AT + SESSION_WORDS * store.transaction[t].session + W_WRITE_VALUE], KEYS * sizeof *w);
         lay_transaction(w, &store.transaction[t]);
     }
     lay_notes(&due[NOTES_AT]);
@@ -159,39 +180,39 @@ static u64 time_bound(void) {
 
 static u64 most_of_setup(size_t i) {
     switch (i) {
-    case 0: return store.halls; /* the next has no mask */
-    case 1: return store.partitions; /* "one more than the highest partition held" */
-    case 2: return holds(&store, 0, 0) ? SESSIONS : store.sessions; /* the home of the next ones is (0, 0) */
-    case 3: return REQUESTS;
-    default: return i - 4 < store.halls ? (UINT64_C(1) << store.partitions) - 1 : any;
+    case W_HALLS: return store.halls; /* the next has no mask */
+    case W_PARTITIONS: return store.partitions; /* "one more than the highest partition held" */
+    case W_SESSIONS: return holds(&store, 0, 0) ? SESSIONS : store.sessions; /* the home of the next ones is (0, 0) */
+    case W_TRANSACTIONS: return REQUESTS;
+    default: return i - W_MASK < store.halls ? (UINT64_C(1) << store.partitions) - 1 : any;
     }
 }
 
 static u64 most_of_session(size_t s, size_t i) {
     const struct Home *home = &store.session[s].home;
-    if (i < 2 && s >= store.sessions)
+    if (i <= W_HOME_PARTITION && s >= store.sessions)
         return any;
     switch (i) {
-    case 0: return last_holder(home->partition);
-    case 1: return last_held(home->hall);
-    case 2: return COMMITTING;
-    case 3: case 4: return time_bound();
-    case 5: case 6: return (UINT64_C(1) << KEYS) - 1;
-    default: return i < 103 ? any : time_bound();
+    case W_HOME_HALL: return last_holder(home->partition);
+    case W_HOME_PARTITION: return last_held(home->hall);
+    case W_STATUS: return COMMITTING;
+    case W_SNAPSHOT: case W_LAST_COMMIT: return time_bound();
+    case W_WRITE_SET: case W_READ_SET: return (UINT64_C(1) << KEYS) - 1;
+    default: return i < W_CACHE_TIME ? any : time_bound();
     }
 }
 
 static u64 most_of_transaction(size_t t, size_t i) {
     switch (i) {
-    case 0: return store.sessions - 1;
-    case 1: return store.halls - 1;
-    case 2: return t < store.requests ? time_bound() : 0;
-    case 3: return (UINT64_C(1) << KEYS) - 1;
+    case W_BY: return store.sessions - 1;
+    case W_FROM: return store.halls - 1;
+    case W_COMMIT_TIME: return t < store.requests ? time_bound() : 0;
+    case W_KEY_SET: return (UINT64_C(1) << KEYS) - 1;
     default: break;
     }
-    if (i < 36)
+    if (i < W_STATE)
         return any;
-    if (i < 40)
+    if (i < W_PROPOSED)
         return t < store.requests ? INSTALLED : 0;
     return time_bound();
 }
@@ -201,7 +222,7 @@ static u64 most(size_t word) {
         return most_of_setup(word);
     if (word < SESSIONS_AT) {
         size_t i = (word - SERVERS_AT) % SERVER_WORDS;
-        return i == 0 ? LAST_READING : i < 7 ? time_bound() : any;
+        return i == W_READING ? LAST_READING : i < W_HELD ? time_bound() : any;
     }
     if (word < TRANSACTIONS_AT)
         return most_of_session((word - SESSIONS_AT) / SESSION_WORDS, (word - SESSIONS_AT) % SESSION_WORDS);
@@ -209,7 +230,7 @@ static u64 most(size_t word) {
         return most_of_transaction((word - TRANSACTIONS_AT) / TRANSACTION_WORDS, (word - TRANSACTIONS_AT) % TRANSACTION_WORDS);
     if (word < NOTES_AT) {
         size_t i = (word - CHANNELS_AT) % CHANNEL_WORDS;
-        return i == 0 ? PLACES - 1 : i == 1 ? PLACES : i < 10 ? time_bound() : any;
+        return i == W_FIRST ? PLACES - 1 : i == W_WAITING ? PLACES : i < W_CARRIES ? time_bound() : any;
     }
     return time_bound();
 }
@@ -317,7 +338,7 @@ static void decided_place(const u64 *n) {
     if (store.requests == REQUESTS)
         return;
     size_t t = store.requests + below(REQUESTS - store.requests);
-    size_t word = TRANSACTIONS_AT + TRANSACTION_WORDS * t + 2;
+    size_t word = TRANSACTIONS_AT + TRANSACTION_WORDS * t + W_COMMIT_TIME;
     room[word] = due[word] = 1 + below(below(2) == 0 ? 8 : UINT64_MAX);
     compare("a place decided that no transaction has", library_step(WORDS, n), turned_away(1));
     room[word] = due[word] = 0;
