@@ -1,3 +1,4 @@
+// The lent room: a word for each cell of the book, read and written by a kind of cell and its indices.
 ghost use mathlib.Core.Path.{_≡_};
 ghost use mathlib.Core.Bool.{cond};
 ghost use Prim.Native.Nat.{_<_};
