@@ -407,8 +407,8 @@ fn pair_ok(room: &[u64], latest: Timestamp, t: usize, p: usize) -> bool
     let state = room::get(room, STATE, t, p, 0, 0);
     let proposed = room::get(room, PROPOSED, t, p, 0, 0);
     let highest = most_at(room, t, STATE_INSTALLED);
-    let known = implied(state == STATE_PREPARED, 1 <= proposed);
-    both(state <= highest, both(proposed <= latest.0, known))
+    // in this order a pair that is not prepared takes three tests: there are 256
+    state <= highest && (proposed <= latest.0 && (state != STATE_PREPARED || 1 <= proposed))
 }
 
 fn pairs_ok(room: &[u64], latest: Timestamp, t: usize) -> bool
