@@ -15,7 +15,7 @@ use Rattle.book.specs.Updates.{is, is-own, one-cell, upd, commute}
 use Rattle.book.specs.ReplicationSteps.{slotOf, clockCarried, setCarried, deliver}
 use Rattle.room.specs.Bulk.{row3k}
 use Rattle.room.specs.Stretch.{heldAll, withEntries}
-use Rattle.vectors.specs.Vectors.{time, vectorOf, entry-of, updatedAt}
+use Rattle.vectors.specs.Vectors.{time, vectorOf, length-entries, entry-of, updatedAt}
 use Rattle.replication.specs.declared.Message.{Message}
 
 -- the oldest message of the channel to g for p from f
@@ -39,7 +39,7 @@ module _ (σ : Store) (h p x f : ℕ) (l : f < hallsMax) where
       rw (eqb-refl h, eqb-refl p)
       (by-eq f g
       (λ q e. rw (e, lt-ltb g hallsMax (rw q at l), ← q)
-      (ap (λ (y : Timestamp). y .0) (getD-set-same (vectorOf σ h p .times) f (time x) (time 0) l)))
+      (ap (λ (y : Timestamp). y .0) (getD-set-same (vectorOf σ h p .times) f (time x) (time 0) (rw (length-entries σ h p hallsMax) l))))
       (λ q e. rw e
       (by-test (ltb g hallsMax)
       (λ m. rw m

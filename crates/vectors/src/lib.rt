@@ -22,13 +22,12 @@ pub fn vector_of(room: &[u64], h: usize, p: usize) -> Vector
     requires { ⌜ (length (now room) ≡ size) × (h < hallsMax) × (p < partitionsMax) ⌝ }
     ensures { λ r. ⌜ r ≡ vectorOf (store (now (room .entry))) h p ⌝ }
 {
+    let mut times = [Timestamp(0); HALLS_MAX];
+    for f in 0..HALLS_MAX {
+        times[f] = entry(room, h, p, f);
+    }
     Vector {
-        times: [
-            entry(room, h, p, 0),
-            entry(room, h, p, 1),
-            entry(room, h, p, 2),
-            entry(room, h, p, 3),
-        ],
+        times,
         holders: servers::holders(room, p),
     }
 }
