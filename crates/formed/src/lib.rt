@@ -433,12 +433,10 @@ fn transaction_ok(room: &[u64], latest: Timestamp, t: usize) -> bool
     let halls = room::get(room, HALLS, 0, 0, 0, 0);
     let writes = room::get(room, KEY_SET, t, 0, 0, 0);
     let decided = Timestamp(most_at(room, t, latest.0));
-    let commit = in_time(room, decided, COMMIT_TIME, t, 0, 0, 0);
-    let pairs = pairs_ok(room, latest, t);
-    both(
-        by < sessions,
-        both(from < halls, both(commit, both(writes < KEY_SETS, pairs))),
-    )
+    by < sessions
+        && (from < halls
+            && (in_time(room, decided, COMMIT_TIME, t, 0, 0, 0)
+                && (writes < KEY_SETS && pairs_ok(room, latest, t))))
 }
 
 fn transactions_ok(room: &[u64], latest: Timestamp) -> bool
