@@ -297,14 +297,9 @@ fn entry_ok(room: &[u64], latest: Timestamp, h: usize, p: usize, g: usize) -> bo
 {
     let first = room::get(room, FIRST, h, p, g, 0);
     let waiting = room::get(room, WAITING, h, p, g, 0);
-    let counts = both(
-        first < SLOTS_MAX as u64,
-        both(
-            waiting <= SLOTS_MAX as u64,
-            clocks_ok(room, latest, h, p, g),
-        ),
-    );
-    both(in_time(room, latest, ENTRY, h, p, g, 0), counts)
+    in_time(room, latest, ENTRY, h, p, g, 0)
+        && (first < SLOTS_MAX as u64
+            && (waiting <= SLOTS_MAX as u64 && clocks_ok(room, latest, h, p, g)))
 }
 
 fn entries_ok(room: &[u64], latest: Timestamp, h: usize, p: usize) -> bool
