@@ -56,8 +56,8 @@ use room::WAITING;
 use room::WRITE_SET;
 use times::timestamp_of;
 
-// A set of the 32 keys is below it.
-const KEY_SETS: u64 = 4294967296;
+// A set of keys is below it.
+const KEY_SETS: u64 = 1 << KEYS_MAX;
 
 fn both(a: bool, b: bool) -> bool
     ensures { λ r. ⌜ r ≡ (a && b) ⌝ }
@@ -402,7 +402,7 @@ fn pair_ok(room: &[u64], latest: Timestamp, t: usize, p: usize) -> bool
     let state = room::get(room, STATE, t, p, 0, 0);
     let proposed = room::get(room, PROPOSED, t, p, 0, 0);
     let highest = most_at(room, t, STATE_INSTALLED);
-    // in this order a pair that is not prepared takes three tests: there are 256
+    // `&&` here, in transaction_ok and in entry_ok is quicker than `both`
     state <= highest && (proposed <= latest.0 && (state != STATE_PREPARED || 1 <= proposed))
 }
 
