@@ -1,14 +1,14 @@
 -- The transactions that an install installs, as a set.
 use Prim.Native.Nat.{ℕ, zero, suc, _<_, _≤_}
 use mathlib.Core.Bool.{Bool, true, false, _&&_}
-use mathlib.Core.Path.{_≡_, refl}
+use mathlib.Core.Path.{_≡_, refl, _∙_}
 use mathlib.Core.List.{List}
 use native.Mathlib.Omega.{arith}
 use lib.Dec.{eqb, ltb, leb}
-use borrow.Author.Tests.{ltb-false, lt-ltb}
+use borrow.Author.Tests.{ltb-false, lt-ltb, le-ltb}
 use Rattle.book.specs.Sizes.{placesMax}
 use Rattle.book.specs.Cells.{Store, each2, CommitTime, State, waiting, installed}
-use Rattle.book.specs.Cases.{by-test}
+use Rattle.book.specs.Cases.{by-test, by-eq}
 use Rattle.book.specs.Folds.{count}
 use Rattle.book.specs.Sets.{member, setOf, member-setOf, size}
 use Rattle.book.specs.Servers.{writer}
@@ -22,9 +22,18 @@ unfolding count
 count-same zero f g e = refl
 count-same (suc n) f g e = rw (e n (omega arith), count-same n f g (λ t l. e t (omega arith)))
 
+-- nor by those from n on, where none of them passes
+count-past : (m n : ℕ) (f : ℕ → Bool) → n ≤ m → ((t : ℕ) → n ≤ t → f t ≡ false) → count m f ≡ count n f
+unfolding count
+count-past zero n f l e = let q : n ≡ 0 = omega arith in rw q
+count-past (suc m) n f l e =
+    by-eq n (suc m) (λ q _. rw q) (λ q _. rw (e m (omega (arith, q))) (count-past m n f (omega (arith, q)) e))
+
 -- a set has as many as pass
 pub size-setOf : (ok : ℕ → Bool) → size (setOf placesMax ok) ≡ count placesMax ok
-size-setOf ok = count-same placesMax (member (setOf placesMax ok)) ok (λ t l. rw (member-setOf placesMax ok t, lt-ltb t placesMax l))
+size-setOf ok =
+    count-past _ placesMax (member (setOf placesMax ok)) (omega arith) (λ t l. rw (member-setOf placesMax ok t, le-ltb t placesMax l))
+    ∙ count-same placesMax (member (setOf placesMax ok)) ok (λ t l. rw (member-setOf placesMax ok t, lt-ltb t placesMax l))
 
 -- "Every waiting transaction with commit time at or below the version clock", v
 abbrev pub due : Store → ℕ → ℕ → ℕ → ℕ → Bool
