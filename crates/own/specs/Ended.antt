@@ -5,19 +5,18 @@ use mathlib.Core.Path.{_≡_, refl, sym, _∙_}
 use mathlib.Core.Logic.{_⊎_, inl, inr, ⊎-elim}
 use native.Mathlib.Nat.{le-refl}
 use native.Mathlib.Omega.{arith}
-use lib.Dec.{eqb, ltb, leb}
-use borrow.Author.Tests.{eqb-true, ltb-true, ltb-false, leb-true, eq-eqb, lt-ltb, not-true}
+use lib.Dec.{eqb, ltb}
+use borrow.Author.Tests.{eqb-true, ltb-true, ltb-false, eq-eqb, lt-ltb}
 use Rattle.book.specs.declared.View.the-variants.{Seen}
-use Rattle.book.specs.Sizes.{partitionsMax, keys, valueMax}
+use Rattle.book.specs.Sizes.{partitionsMax, keys}
 use Rattle.book.specs.Cells.{Store, Transactions, HomeHall, Status, idle, running, committing, WriteSet, WriteValue, By, From, CommitTime, KeySet, Value, State, asked}
 use Rattle.book.specs.Cases.{by-test, by-eq, and-true, eqb-refl}
 use Rattle.book.specs.Folds.{count}
 use Rattle.book.specs.Sets.{member, member-none, member-include}
 use Rattle.book.specs.Answers.{stamp, triple, numbers}
-use Rattle.book.specs.Servers.{holds, partitionOf, placeOf, numberOf}
+use Rattle.book.specs.Servers.{placeOf, numberOf}
 use Rattle.book.specs.Views.{version, decided}
 use Rattle.book.specs.SessionSteps.{write, hasWrites, touches, end, endAnswer}
-use Rattle.book.specs.Refusals.{sessionThere, transactionThere, unused, allPrepared}
 use Rattle.book.specs.Steps.{Rule, ruleOf, by-code, _also_, refusal, after, answer, refused-unchanged, startRule, writeRule, endRule, decideRule}
 use Rattle.book.specs.Reached.{Reached, Later}
 use Rattle.facts.specs.Facts.{end-alone, start-facts, read-facts, write-facts, end-facts, decide-facts}

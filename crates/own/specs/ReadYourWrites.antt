@@ -20,7 +20,6 @@ use Rattle.book.specs.Views.{later, stampOf, version, decided, wroteBy, decided
 use Rattle.book.specs.Steps.{refusal, answer}
 use Rattle.book.specs.Reached.{Reached}
 use Rattle.bounds.specs.Formed.{formed}
-use Rattle.invariant.specs.Inv.{Inv}
 use Rattle.bounds.specs.WellFormedKept.{reached-well-formed}
 use Rattle.merging.specs.Stamps.{later-self}
 use Rattle.merging.specs.Merge.{of-all, latest}

@@ -10,9 +10,9 @@ use lib.Dec.{eqb, ltb, leb}
 use lib.ListN.{length, length-append}
 use borrow.Author.Tests.{eqb-true, eqb-false, ltb-true, ltb-false, leb-true, leb-false, eq-eqb, ne-eqb, lt-ltb, le-ltb, le-leb, lt-leb}
 use Rattle.book.specs.Sizes.{hallsMax, partitionsMax, keys, placesMax, slots, valueMax}
-use Rattle.book.specs.Cells.{Store, same, Partitions, Sessions, Transactions, Status, idle, running, committing, By, CommitTime, KeySet, State, asked, prepared, waiting, Proposed, Waiting}
+use Rattle.book.specs.Cells.{Store, same, Partitions, Sessions, Transactions, Status, idle, running, committing, By, CommitTime, KeySet, State, asked, prepared, waiting, Waiting}
 use Rattle.book.specs.Cases.{by-test, by-eq, by-cell, and-true, unwritten, eqb-refl, at-same}
-use Rattle.book.specs.Folds.{any, all-i, any-true, any-false, largest-ge}
+use Rattle.book.specs.Folds.{any, all-i, any-true, any-false}
 use Rattle.book.specs.Servers.{holds, partitionOf, placeOf, numberOf}
 use Rattle.book.specs.Sets.{member}
 use Rattle.book.specs.SessionSteps.{start, hasWrites, touches, ask}

@@ -6,11 +6,10 @@ use mathlib.Core.List.{List}
 use mathlib.Core.Logic.{_↔_}
 use lib.Dec.{eqb}
 use lib.ListN.{length}
-use borrow.Author.Tests.{eq-eqb, ne-eqb, eqb-false}
+use borrow.Author.Tests.{eq-eqb, ne-eqb}
 use Rattle.book.specs.declared.Answer.{Answer}
 use Rattle.book.specs.Sizes.{hallsMax, partitionsMax, readingMax, timeMax}
 use Rattle.book.specs.Cells.{Reading}
-use Rattle.book.specs.Cases.{by-eq}
 use Rattle.book.specs.Servers.{holds}
 use Rattle.book.specs.ReplicationSteps.{isQuiet}
 use Rattle.book.specs.Reached.{Reached}

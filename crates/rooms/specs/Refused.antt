@@ -1,25 +1,23 @@
 -- Demand 1, of any lent room: what is turned away leaves every word and answers zeros.
-use Prim.Native.Nat.{ℕ, _≤_}
-use mathlib.Core.Bool.{Bool, true, false, cond}
-use mathlib.Core.Path.{_≡_, refl, sym, ap, _∙_}
+use Prim.Native.Nat.{ℕ}
+use mathlib.Core.Bool.{false, cond}
+use mathlib.Core.Path.{_≡_, sym, ap, _∙_}
 use mathlib.Core.List.{List}
-use mathlib.Core.Logic.{_⊎_, inl, inr, ⊎-elim, _↔_}
+use mathlib.Core.Logic.{_⊎_, ⊎-elim, _↔_}
 use native.Mathlib.Omega.{arith}
 use lib.Dec.{eqb}
 use lib.ListN.{length}
-use borrow.Author.Tests.{eq-eqb, ne-eqb, eqb-true, eqb-false}
+use borrow.Author.Tests.{ne-eqb}
 use Rattle.book.specs.declared.Answer.{Answer}
 use Rattle.book.specs.declared.Answer.the-variants.{Refused}
-use Rattle.book.specs.declared.Numbers.{Numbers}
-use Rattle.book.specs.Cells.{Store}
-use Rattle.book.specs.Cases.{by-test, by-eq, choose}
+use Rattle.book.specs.Cases.{by-test, by-eq}
 use Rattle.book.specs.Answers.{triple, numbers}
 use Rattle.book.specs.Setup.{setupRefusal, setupAnswer}
-use Rattle.book.specs.Steps.{Rule, by-code, refusal, answer, refused-unchanged, answer-refusal}
+use Rattle.book.specs.Steps.{refusal, answer, refused-unchanged, answer-refusal}
 use Rattle.facts.specs.Ladders.{in-table}
 use Rattle.room.specs.Layout.{size, store}
-use Rattle.setup.specs.SetUp.{SetUp, setupGiven}
-use Rattle.store.specs.Face.{Stepped, sound, stepAnswer, no-word}
+use Rattle.setup.specs.SetUp.{SetUp}
+use Rattle.store.specs.Face.{Stepped, sound, no-word}
 
 -- the number that an answer gives, 0 where nothing is turned away
 abbrev pub given : Answer → ℕ

@@ -1,7 +1,7 @@
 -- "A full round", of rooms.
 use Prim.Native.Nat.{ℕ, _≤_, _<_}
 use mathlib.Core.Bool.{true}
-use mathlib.Core.Path.{_≡_, refl, sym, _∙_}
+use mathlib.Core.Path.{_≡_, refl, _∙_}
 use mathlib.Core.List.{List, [], _∷_, _++_}
 use Rattle.book.specs.declared.Answer.{Answer}
 use Rattle.book.specs.Sizes.{partitionsMax, placesMax}

@@ -1,6 +1,6 @@
 -- "Each server writes only its own stretch of the lent room", of rooms: a step leaves every word of every other server's.
 use Prim.Native.Nat.{ℕ, _+_, _≤_, _<_}
-use mathlib.Core.Bool.{true, false, _&&_}
+use mathlib.Core.Bool.{true, false}
 use mathlib.Core.Path.{_≡_, sym, ap, _∙_}
 use mathlib.Core.List.{List}
 use native.Mathlib.Omega.{arith}
@@ -9,12 +9,11 @@ use lib.ListN.{getD}
 use borrow.Author.Tests.{eqb-true, leb-true}
 use Rattle.book.specs.declared.Answer.{Answer}
 use Rattle.book.specs.Sizes.{hallsMax, partitionsMax}
-use Rattle.book.specs.Cells.{Cell, cell, Store, Reading, Hybrid, Stable, Entry, Held}
+use Rattle.book.specs.Cells.{cell, Store}
 use Rattle.book.specs.Cases.{by-test, and-true}
 use Rattle.progress.specs.Stretches.{isAt, SameStretch, own-stretch}
 use Rattle.room.specs.Layout.{at, Within, store, cellAt, stretch, start}
 use Rattle.room.specs.Words.{valid-within, covers, store-get}
-use Rattle.room.specs.Checked.{ofServer}
 use Rattle.room.specs.Stretch.{five, own-i, stretch-cells}
 use Rattle.store.specs.Face.{Stepped, sound}
 

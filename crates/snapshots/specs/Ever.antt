@@ -1,16 +1,16 @@
 -- The store against the run: what was decided so far, entry by entry, is what the store has as decided.
 use Prim.Native.Nat.{ℕ, _<_}
-use mathlib.Core.Bool.{true, false, cond, _&&_, false≢true, and-false}
+use mathlib.Core.Bool.{true, false, false≢true, and-false}
 use mathlib.Core.Path.{_≡_, refl, sym, ap, _∙_, subst}
 use mathlib.Core.List.{List, [], _∷_, List·Memᴰ, List·Memᴰ·head, List·Memᴰ·tail, List·Memᴰ·not-nil, List·Memᴰ·cases-cons}
 use mathlib.Core.Logic.{_⊎_, _↔_, ⊎-elim}
 use native.Mathlib.Nat.{le-trans}
 use native.Mathlib.Omega.{arith}
 use lib.Dec.{eqb, ltb}
-use borrow.Author.Tests.{eqb-true, ltb-true, lt-ltb, eq-eqb, ne-eqb}
+use borrow.Author.Tests.{ltb-true, lt-ltb, eq-eqb, ne-eqb}
 use Rattle.book.specs.Sizes.{partitionsMax, placesMax}
 use Rattle.book.specs.Cells.{Store, Transactions, By, From, CommitTime, KeySet, Value, State, prepared, Proposed}
-use Rattle.book.specs.Cases.{by-test, by-eq, by-cell, and-true, at-same}
+use Rattle.book.specs.Cases.{by-test, by-eq, at-same}
 use Rattle.book.specs.Folds.{largest-ge}
 use Rattle.book.specs.Servers.{placeOf, numberOf}
 use Rattle.book.specs.Views.{merge, decided, decidedView}

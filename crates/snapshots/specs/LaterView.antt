@@ -23,7 +23,6 @@ use Rattle.book.specs.History.{everView, decidedEver}
 use Rattle.book.specs.Reached.{Reached, Later}
 use Rattle.facts.specs.Step.{Step, Writing, over, by-later}
 use Rattle.invariant.specs.Inv.{Inv, Below}
-use Rattle.facts.specs.Setup.{server-small}
 use Rattle.invariant.specs.Writer.{writer-holds}
 use Rattle.invariant.specs.Reach.{reached-later, reached-inv, reached-gossip, later-inv, later-below}
 use Rattle.snapshots.specs.Ever.{ever-decided}
