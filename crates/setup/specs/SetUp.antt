@@ -2,13 +2,14 @@
 use Prim.Native.Nat.{ℕ, _%_}
 use mathlib.Core.Bool.{true, false, cond, _&&_}
 use mathlib.Core.List.{List}
-use mathlib.Core.Path.{_≡_, refl, sym, _∙_}
+use mathlib.Core.Path.{_≡_, refl}
 use lib.Dec.{eqb}
 use lib.ListN.{length}
 use borrow.Author.Tests.{eq-eqb, ne-eqb}
 use Rattle.book.specs.declared.Answer.{Answer}
 use Rattle.book.specs.declared.Answer.the-variants.{Refused, Answered}
 use Rattle.book.specs.Cells.{Store, Partitions}
+use Rattle.book.specs.Cases.{by-test}
 use Rattle.book.specs.Setup.{goodSetup, firstStore, setupRefusal, servers, setupAnswer}
 use Rattle.room.specs.Layout.{size, store}
 use Rattle.room.specs.Lay.{lay}
@@ -32,10 +33,14 @@ pub record SetUp (r masks homes : List ℕ) (x : Answer) (left : List ℕ) : Typ
   pub room : left ≡ setupRoom r masks homes
   pub store : store left ≡ setupStore r masks homes
 
--- No second outcome fits.
-pub setup-one-outcome : {r masks homes : List ℕ} {x y : Answer} {left late : List ℕ}
-    → SetUp r masks homes x left → SetUp r masks homes y late → (x ≡ y) × (left ≡ late)
-setup-one-outcome s t = (s .answer ∙ sym (t .answer), s .room ∙ sym (t .room))
+-- one answer and one room meet it, and no other
+pub setup-one-outcome : (r masks homes : List ℕ)
+    → (x : Answer) × (left : List ℕ) × SetUp r masks homes x left
+    × ((y : Answer) (late : List ℕ) → SetUp r masks homes y late → (y ≡ x) × (late ≡ left))
+setup-one-outcome r masks homes =
+    let laid : store (setupRoom r masks homes) ≡ setupStore r masks homes =
+    by-test (eqb (length r) size && eqb (setupRefusal masks homes) 0) (λ e. rw e (first-laid masks homes)) (λ e. rw e) in
+    (setupGiven r masks homes, setupRoom r masks homes, record { answer = refl; room = refl; store = laid }, λ y late o. (o .answer, o .room))
 
 -- the four ways that a setup ends
 module _ (r masks homes : List ℕ) where

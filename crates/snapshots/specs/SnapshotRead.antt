@@ -97,8 +97,8 @@ pub snapshot-read : {σ : Store} (r : Reached σ) (s k h : ℕ) → Fetches σ s
 unfolding refusal answer ruleOf
 snapshot-read {σ} r s k h f =
     let I = reached-inv r in
-    let x = held-decided σ I (σ (Snapshot s)) (reached-gossip r .snapshot s) k h (f .key) (f .holder) ∙ sym
-    (ever-decided r k (σ (Snapshot s))) in
+    let S = σ (Snapshot s) in
+    let x = held-decided σ I S (reached-gossip r .snapshot s) k h (f .key) (f .holder) ∙ sym (ever-decided r k S) in
     let l = lt-ltb k keys (f .key) in (
       rw (f .there, l, f .holder, f .runs),
       rw (f .there, l, f .holder, f .runs, f .unwritten, f .unread, f .uncached, x),
