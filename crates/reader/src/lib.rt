@@ -3,14 +3,14 @@
 ghost use Rattle.std.specs.Prelude.{◌≡◌};
 ghost use Rattle.reader.specs.Sign.{sign_at};
 
-#[derive(Drop)]
+#[derive(Clone, Copy)]
 pub struct Reader<'a> {
     pub text: &'a [u8],
     pub at: usize,
 }
 
 // The byte at a place, or the text's end.
-#[derive(Drop)]
+#[derive(Clone, Copy)]
 pub enum Sign {
     Byte(u8),
     End,

@@ -101,7 +101,7 @@ fn due_set(room: &[u64], h: usize, p: usize, version: Timestamp) -> u64
 }
 
 // What an install comes to: the server's clock after it, the set of those it installs, their number, and whether it is quiet.
-#[derive(Drop)]
+#[derive(Clone, Copy)]
 struct Installation {
     clock: Clock,
     set: u64,
@@ -159,7 +159,7 @@ fn mark_installed(room: &mut [u64], p: usize, set: u64)
 }
 
 // What goes through a channel: a version clock, and the set of the transactions that were installed with it.
-#[derive(Drop)]
+#[derive(Clone, Copy)]
 struct Message {
     clock: Timestamp,
     set: u64,

@@ -37,7 +37,7 @@ fn read_file(fd: i32, bytes: &mut [u8], at: usize, most: usize) -> usize
 }
 
 // Where a text ends, and where what is stored of it does.
-#[derive(Drop)]
+#[derive(Clone, Copy)]
 struct Ends {
     text: usize,
     stored: usize,

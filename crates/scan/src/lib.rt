@@ -8,34 +8,34 @@ ghost use Rattle.scan.specs.Sections.{among, numbers_at, section_at};
 use reader::{Sign, peek_at};
 
 // "a place in the lent text"
-#[derive(Drop)]
+#[derive(Clone, Copy)]
 pub struct Cursor {
     pub at: usize,
 }
 
 // A number with the place after its closing byte, or the offset of the first byte that can't stand there.
-#[derive(Drop)]
+#[derive(Clone, Copy)]
 pub enum Number {
     Value(u64, Cursor),
     Bad(usize),
 }
 
 // The four numbers of a step, likewise.
-#[derive(Drop)]
+#[derive(Clone, Copy)]
 pub enum Four {
     Step(u64, u64, u64, u64, Cursor),
     Bad(usize),
 }
 
 // Where reading several numbers ended, likewise.
-#[derive(Drop)]
+#[derive(Clone, Copy)]
 pub enum Many {
     Next(Cursor),
     Bad(usize),
 }
 
 // A section before the steps: how many numbers follow its count, with the place after them; a count outside its range; or bad text.
-#[derive(Drop)]
+#[derive(Clone, Copy)]
 pub enum Section {
     Whole(usize, Cursor),
     Outside,

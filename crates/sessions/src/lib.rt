@@ -119,7 +119,7 @@ fn told(room: &mut [u64], s: usize, k: usize, view: View) -> Answer
 }
 
 // What a session itself has of a key.
-#[derive(Drop)]
+#[derive(Clone, Copy)]
 pub enum Found {
     Value(u64),
     Nothing,

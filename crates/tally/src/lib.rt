@@ -9,7 +9,7 @@ ghost use Rattle.tally.specs.Agrees.{verdict, verdict_at, agrees};
 use formed::one_more;
 
 // Two texts are the same, or the first offset where they are not.
-#[derive(Drop)]
+#[derive(Clone, Copy)]
 pub enum Compared {
     Same,
     At(usize),

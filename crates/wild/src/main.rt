@@ -28,7 +28,7 @@ fn part(x: u64, m: u64) -> u64 {
 }
 
 // How many steps were answered: those taken, and those turned away.
-#[derive(Drop)]
+#[derive(Clone, Copy)]
 pub struct Count {
     pub taken: u64,
     pub away: u64,
