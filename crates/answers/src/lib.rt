@@ -1,4 +1,6 @@
 // "a definition gives this paper's number and values for each case": that definition in code.
+#![tactic(auto)]
+
 ghost use Rattle.std.specs.Prelude.{◌≡◌};
 ghost use Rattle.book.specs.Answers.{triple as triple_of, view_numbers, numbers as numbers_of};
 

@@ -1,1 +1,3 @@
 // Every step keeps a store well formed; no timestamp, pair or value passes its bound: theorems only, in specs/.
+#![tactic(auto)]
+

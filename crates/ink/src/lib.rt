@@ -1,4 +1,6 @@
 // Printing into a lent buffer: each function writes from the place `at` on and returns the place after what it wrote.
+#![tactic(auto)]
+
 ghost use Rattle.std.specs.Prelude.{◌≡◌, ◌+◌, ◌<◌, [], ◌∷◌};
 ghost use Rattle.ink.specs.Decimal.{digits, item, line, script};
 ghost use Rattle.ink.specs.Written.{Written, Fits};

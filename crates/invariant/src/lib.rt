@@ -1,1 +1,3 @@
 // What every reached store has, and each step keeps: theorems only, in specs/.
+#![tactic(auto)]
+

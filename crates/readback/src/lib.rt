@@ -1,1 +1,3 @@
 // Theorems only: what is printed is read back (specs/ReadBack.antt).
+#![tactic(auto)]
+

@@ -1,5 +1,7 @@
 // "The script is read through a place in the lent text": a reader holds both. Its functions are thin: `peek` takes the reader apart and `peek_at`
 // puts it together, so that nobody else has to hold one.
+#![tactic(auto)]
+
 ghost use Rattle.std.specs.Prelude.{◌≡◌};
 ghost use Rattle.reader.specs.Sign.{sign_at};
 

@@ -1,1 +1,3 @@
 // Theorems only: what is promised of the rooms that setup and step leave, by their contracts (specs/).
+#![tactic(auto)]
+

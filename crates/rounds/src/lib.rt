@@ -1,1 +1,3 @@
 // A full round brings every stable time on; quiet installs; what a lag says: theorems only, in specs/.
+#![tactic(auto)]
+
