@@ -1,4 +1,6 @@
 // Reading the script: each byte is taken by a reader (crates/reader), and the place in the text is a cursor by value.
+#![tactic(auto)]
+
 ghost use Rattle.std.specs.Prelude.{◌≡◌, true, cond, ◌*◌, ◌<◌, ◌≤◌, ◌^◌, leb, length, drop};
 ghost use Rattle.std.proofs.lemmas.List.Edits.{sets};
 ghost use Rattle.scan.specs.Number.{digit, closing, grows, joined, start, number_at, count_at};
