@@ -14,7 +14,8 @@ use Rattle.scan.specs.declared.Section.TheVariants.{Whole, Outside, Bad as BadSe
 use Rattle.scan.specs.Number.{count_max, count_at, either, count_within}
 use Rattle.scan.specs.Groups.{on_four, by_number, four_at, four_within}
 use Rattle.scan.specs.Sections.{on_section, section_at, SectionWithin, section_within}
-use Rattle.ink.specs.Decimal.{line_max, script_max, length_line, length_script}
+use Rattle.ink.specs.Decimal.{line_max, script_max}
+use Rattle.ink.proofs.Decimal.{length_line, length_script}
 use Rattle.ink.specs.Written.{Fits}
 use Rattle.book.specs.Sizes.{halls_max, sessions_max}
 use Rattle.book.specs.Cells.{Store}

@@ -1,5 +1,5 @@
 use Rattle.std.proofs.Common.{arith}
-use Rattle.ink.specs.Decimal.{digits_one, digits_more}
+use Rattle.ink.proofs.Decimal.{digits_one, digits_more}
 use Rattle.ink.specs.Written.{first, second, then}
 use Rattle.ink.proofs.+put_number.Goals as goal
 
