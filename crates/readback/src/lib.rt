@@ -1,3 +1,2 @@
 // Theorems only: what is printed is read back (specs/ReadBack.antt).
 #![tactic(auto)]
-
