@@ -1,39 +1,58 @@
 // Runs every script that the file `list` names, one to a line, and holds its printout to the stored one: NAME.script and NAME.expect.
 // All files are read first: what is counted is then said of bytes in hand, by `tally`.
-ghost use Rattle.std.specs.Prelude.{◌≡◌, ◌+◌, ◌≤◌, ◌<◌, length};
+#![tactic(auto)]
+
+ghost use Rattle.std.specs.Prelude.{◌≡◌, ◌+◌, ◌≤◌, ◌<◌, IfOk, length};
 ghost use Rattle.room.specs.Layout.{size};
 ghost use Rattle.script.specs.Length.{capacity};
 
-use libc::STDOUT_FILENO;
 use room::SIZE;
 use script::CAPACITY;
+use std::io::Read;
+use std::rt::Files;
+use std::{fs, io};
 use tally::Compared;
 
-// A descriptor of the file NAME with the ending, or -1.
-fn open(name: &[u8], ending: &[u8]) -> i32
+// The file NAME with the ending, or none.
+fn open<R: Files>(rt: &R, name: &[u8], ending: &[u8]) -> Option<R::File>
     requires { length ending.now ≤ 56 }
 {
     if name.len() > 200 {
-        return -1;
+        return None;
     }
     let mut path = [0u8; 256];
     let n = ink::put_bytes(&mut path, 0, name);
     let m = ink::put_bytes(&mut path, n, ending);
-    os::open_read(&path[..m])
+    let text = str::from_utf8(&path[..m]).ok()?;
+    fs::open(rt, text).ok()
+}
+
+// Reads to the end of what there is, or until `bytes` is full, and returns how many bytes were read: these stand at the front.
+fn read_full<R: Read>(from: &mut R, bytes: &mut [u8]) -> io::Result<usize>
+    ensures { (length bytes.new ≡ length bytes.old) × IfOk result (λ n. n ≤ length bytes.old) }
+{
+    let mut done = 0;
+    while done < bytes.len() {
+        let n = from.read(&mut bytes[done..])?;
+        if n == 0 {
+            return Ok(done);
+        }
+        done += n;
+    }
+    Ok(done)
 }
 
 // Reads a file to `at` and on, its first `most` bytes, and returns the place after them. Nothing is read where there is no room for so many.
-fn read_file(fd: i32, bytes: &mut [u8], at: usize, most: usize) -> usize
+fn read_file<F: Read>(file: &mut F, bytes: &mut [u8], at: usize, most: usize) -> io::Result<usize>
     requires { at ≤ length bytes.old }
-    ensures { (length bytes.new ≡ length bytes.old) × (result ≤ length bytes.old) }
+    ensures { (length bytes.new ≡ length bytes.old) × IfOk result (λ n. n ≤ length bytes.old) }
 {
     if bytes.len() - at < most {
-        return at;
+        return Ok(at);
     }
     let end = at + most;
-    let n = io::read_full(fd, &mut bytes[at..end]);
-    libc::close(fd);
-    at + n
+    let n = read_full(file, &mut bytes[at..end])?;
+    Ok(at + n)
 }
 
 // Where a text ends, and where what is stored of it does.
@@ -44,27 +63,25 @@ struct Ends {
 }
 
 // Reads a script's two files to `at` and on, each with one byte more than it may have. Where one is not there both are empty, as no printout is.
-fn read_script(name: &[u8], bytes: &mut [u8], at: usize) -> Ends
+fn read_script(rt: &impl Files, name: &[u8], bytes: &mut [u8], at: usize) -> io::Result<Ends>
     requires { at ≤ length bytes.old }
-    ensures { (length bytes.new ≡ length bytes.old) × (result.stored ≤ length bytes.old) }
+    ensures { (length bytes.new ≡ length bytes.old) × IfOk result (λ e. e.stored ≤ length bytes.old) }
 {
-    let script = open(name, b".script");
-    if script < 0 {
-        return Ends {
+    let Some(mut script) = open(rt, name, b".script") else {
+        return Ok(Ends {
             text: at,
             stored: at,
-        };
-    }
-    let expect = open(name, b".expect");
-    if expect < 0 {
-        return Ends {
+        });
+    };
+    let Some(mut expect) = open(rt, name, b".expect") else {
+        return Ok(Ends {
             text: at,
             stored: at,
-        };
-    }
-    let text = read_file(script, bytes, at, 65537);
-    let stored = read_file(expect, bytes, text, CAPACITY + 1);
-    Ends { text, stored }
+        });
+    };
+    let text = read_file(&mut script, bytes, at, 65537)?;
+    let stored = read_file(&mut expect, bytes, text, CAPACITY + 1)?;
+    Ok(Ends { text, stored })
 }
 
 fn line_end(list: &[u8], from: usize) -> usize
@@ -91,74 +108,91 @@ fn cut(cuts: &mut [usize], i: usize, ends: Ends)
 }
 
 // Reads the files of every line, sets the cuts between them, and returns how many lines there are. The first cut is 0 as it was.
-fn read_all(list: &[u8], bytes: &mut [u8], cuts: &mut [usize]) -> usize
+fn read_all(rt: &impl Files, list: &[u8], bytes: &mut [u8], cuts: &mut [usize]) -> io::Result<usize>
     requires { (length list.now ≤ 65536) × (length cuts.old ≡ 131073) }
-    ensures { (length bytes.new ≡ length bytes.old) × (length cuts.new ≡ 131073) × (result ≤ 65536) }
+    ensures { (length bytes.new ≡ length bytes.old) × (length cuts.new ≡ 131073) × IfOk result (λ n. n ≤ 65536) }
 {
     let mut from = 0;
     let mut at = 0;
     let mut lines = 0;
     while from < list.len() {
         let end = line_end(list, from);
-        let ends = read_script(&list[from..end], bytes, at);
+        let ends = read_script(rt, &list[from..end], bytes, at)?;
         cut(cuts, lines, ends);
         at = ends.stored;
         lines += 1;
         from = end + 1;
     }
-    lines
+    Ok(lines)
 }
 
 // Whether script i differs from what is stored of it; if so, its line is said and the offset.
-fn differs(bytes: &[u8], cuts: &[usize], i: usize, room: &mut [u64], out: &mut [u8]) -> bool
+fn differs(
+    rt: &impl Print,
+    bytes: &[u8],
+    cuts: &[usize],
+    i: usize,
+    room: &mut [u64],
+    out: &mut [u8],
+) -> io::Result<bool>
     requires { (i + i + 2 < length cuts.now) × (length room.old ≡ size) × (capacity ≤ length out.old) }
     ensures { (length room.new ≡ size) × (length out.new ≡ length out.old) }
 {
     match tally::judge_at(bytes, cuts, i, room, out) {
-        Compared::Same => false,
+        Compared::Same => Ok(false),
         Compared::At(k) => {
-            io::write_all(STDOUT_FILENO, b"line ");
-            io::print_decimal(STDOUT_FILENO, i as u64 + 1);
-            io::write_all(STDOUT_FILENO, b" of the list differs at ");
-            io::print_decimal(STDOUT_FILENO, k as u64);
-            io::write_all(STDOUT_FILENO, b"\n");
-            true
+            let line = i as u64 + 1;
+            println!(rt; "line {line} of the list differs at {k}")?;
+            Ok(true)
         }
     }
 }
 
 // The first script that does not agree, where not all do.
 fn report(
+    rt: &impl Print,
     bytes: &[u8],
     cuts: &[usize],
     agree: u64,
     scripts: usize,
     room: &mut [u64],
     out: &mut [u8],
-)
+) -> io::Result<()>
     requires { (scripts + scripts < length cuts.now) × (length room.old ≡ size) × (capacity ≤ length out.old) }
     ensures { (length room.new ≡ size) × (length out.new ≡ length out.old) }
 {
     if agree == scripts as u64 {
-        return;
+        return Ok(());
     }
     for i in 0..scripts {
-        if differs(bytes, cuts, i, room, out) {
-            return;
+        if differs(rt, bytes, cuts, i, room, out)? {
+            return Ok(());
         }
     }
+    Ok(())
 }
 
-fn run_all(list: &[u8], bytes: &mut [u8], cuts: &mut [usize], room: &mut [u64], out: &mut [u8])
+fn run_all(
+    rt: &(impl Files + Print),
+    list: &[u8],
+    bytes: &mut [u8],
+    cuts: &mut [usize],
+    room: &mut [u64],
+    out: &mut [u8],
+) -> io::Result<()>
     requires { (length list.now ≤ 65536) × (length cuts.old ≡ 131073) × (length room.old ≡ size) × (capacity ≤ length out.old) }
 {
-    let scripts = read_all(list, bytes, cuts);
+    let scripts = read_all(rt, list, bytes, cuts)?;
     let agree = tally::tally(bytes, cuts, scripts, room, out);
-    report(bytes, cuts, agree, scripts, room, out);
-    io::print_decimal(STDOUT_FILENO, agree);
-    io::write_all(STDOUT_FILENO, b" of ");
-    io::print_decimal(STDOUT_FILENO, scripts as u64);
-    io::write_all(STDOUT_FILENO, b" scripts agree\n");
+    report(rt, bytes, cuts, agree, scripts, room, out)?;
+    println!(rt; "{agree} of {scripts} scripts agree")
+}
+
+// The bytes of the list.
+fn no_list() -> [u8; 65536]
+    ensures { 65536 ≡ length result }
+{
+    [0; 65536]
 }
 
 // The bytes of all files.
@@ -187,14 +221,13 @@ fn no_printout() -> [u8; CAPACITY]
     [0; CAPACITY]
 }
 
-fn main() {
-    let fd = os::open_read(b"list");
-    let mut list = io::large_buffer();
-    let n = io::read_full(fd, &mut list);
-    libc::close(fd);
+fn main(rt: HostRuntime) -> io::Result<()> {
+    let mut file = fs::open(&rt, "list")?;
+    let mut list = no_list();
+    let n = read_full(&mut file, &mut list)?;
     let mut bytes = no_bytes();
     let mut cuts = no_cuts();
     let mut room = no_room();
     let mut out = no_printout();
-    run_all(&list[..n], &mut bytes, &mut cuts, &mut room, &mut out);
+    run_all(&rt, &list[..n], &mut bytes, &mut cuts, &mut room, &mut out)
 }

@@ -1,10 +1,13 @@
 // Any words as a room and any numbers as a step: each ends with an answer. Bounded and seeded; prints how many were taken and turned away.
-ghost use Rattle.std.specs.Prelude.{◌≡◌, ◌+◌, ◌≤◌, ◌<◌};
+#![tactic(auto)]
+
+ghost use Rattle.std.specs.Prelude.{◌≡◌, ◌+◌, ◌≤◌, ◌<◌, IfOk};
 ghost use Rattle.wild.specs.Counted.{is_refused, counted as countedOf};
 
 use book::Answer;
-use libc::STDOUT_FILENO;
 use room::SIZE;
+use std::io;
+use std::io::Write;
 
 // The next number of a xorshift generator.
 fn next(x: u64) -> u64 {
@@ -78,69 +81,83 @@ fn hundred(room: &mut [u64], seed: u64, codes: u64, m: u64) -> Count
     n
 }
 
-fn say(words: &[u8], n: Count) {
-    io::write_all(STDOUT_FILENO, words);
-    io::write_all(STDOUT_FILENO, b": taken ");
-    io::print_decimal(STDOUT_FILENO, n.taken);
-    io::write_all(STDOUT_FILENO, b", turned away ");
-    io::print_decimal(STDOUT_FILENO, n.away);
-    io::write_all(STDOUT_FILENO, b"\n");
+fn say(rt: &impl Print, words: &[u8], n: Count) -> io::Result<()> {
+    let mut out = io::writer(rt);
+    out.write_all(words)?;
+    writeln!(out, ": taken {}, turned away {}", n.taken, n.away)
 }
 
 // A hundred steps, said; returns how many were answered, with those before.
-fn steps(words: &[u8], room: &mut [u64], seed: u64, codes: u64, m: u64, answered: u64) -> u64
+fn steps(
+    rt: &impl Print,
+    words: &[u8],
+    room: &mut [u64],
+    seed: u64,
+    codes: u64,
+    m: u64,
+    answered: u64,
+) -> io::Result<u64>
     requires { answered ≤ 10000 }
-    ensures { result ≡ answered + 100 }
+    ensures { IfOk result (λ n. n ≡ answered + 100) }
 {
     let n = hundred(room, seed, codes, m);
-    say(words, n);
-    answered + (n.taken + n.away)
+    say(rt, words, n)?;
+    Ok(answered + (n.taken + n.away))
 }
 
 // A room as setup left it, and then as the steps leave it.
-fn five(room: &mut [u64], seed: u64, answered: u64) -> u64
+fn five(rt: &impl Print, room: &mut [u64], seed: u64, answered: u64) -> io::Result<u64>
     requires { answered ≤ 1000 }
-    ensures { result ≡ answered + 500 }
+    ensures { IfOk result (λ n. n ≡ answered + 500) }
 {
     let mut n = steps(
+        rt,
         b"a room as set up, any code and numbers",
         room,
         seed,
         0,
         0,
         answered,
-    );
-    n = steps(b"then any code, numbers below 3", room, seed, 0, 3, n);
-    n = steps(b"then codes below 16, any numbers", room, seed, 16, 0, n);
+    )?;
+    n = steps(rt, b"then any code, numbers below 3", room, seed, 0, 3, n)?;
     n = steps(
+        rt,
+        b"then codes below 16, any numbers",
+        room,
+        seed,
+        16,
+        0,
+        n,
+    )?;
+    n = steps(
+        rt,
         b"then codes below 16, numbers below 3",
         room,
         seed,
         16,
         3,
         n,
-    );
-    steps(b"then the same, drawn anew", room, next(seed), 16, 3, n)
+    )?;
+    steps(rt, b"then the same, drawn anew", room, next(seed), 16, 3, n)
 }
 
-fn main() {
+fn main(rt: HostRuntime) -> io::Result<()> {
     let mut room = [0u64; SIZE];
     let x = fill(&mut room, 88172645463325252);
     let mut n = steps(
+        &rt,
         b"random words as a room, any code and numbers",
         &mut room,
         x,
         0,
         0,
         0,
-    );
+    )?;
     let masks = [3u64, 2];
     let homes = [0u64, 0, 1, 1];
     setup::setup(&mut room, &masks, &homes);
-    n = five(&mut room, x, n);
+    n = five(&rt, &mut room, x, n)?;
     let mut short = [0u64; 100];
-    n = steps(b"a room of wrong length", &mut short, x, 16, 3, n);
-    io::write_all(STDOUT_FILENO, b"all steps answered: ");
-    io::print_decimal(STDOUT_FILENO, n);
-    io::write_all(STDOUT_FILENO, b"\n");
+    n = steps(&rt, b"a room of wrong length", &mut short, x, 16, 3, n)?;
+    println!(rt; "all steps answered: {n}")
 }
