@@ -1,4 +1,6 @@
 // 1. A server's clock, taken from the room and put back whole; what it proposes; tick.
+#![tactic(auto)]
+
 ghost use Rattle.std.specs.Prelude.{◌≡◌, ◌<◌, ◌≤◌, length};
 ghost use Rattle.book.specs.Sizes.{halls_max, partitions_max, time_max};
 ghost use Rattle.book.specs.CommitSteps.{tick as tickedStore};

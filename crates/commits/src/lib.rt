@@ -1,4 +1,6 @@
 // Steps 6 to 8: prepare, decide, commit.
+#![tactic(auto)]
+
 ghost use Rattle.std.specs.Prelude.{◌≡◌, ◌<◌, ◌^◌, length};
 ghost use Rattle.book.specs.Sizes.{halls_max, partitions_max, sessions_max, keys as keysMax, places_max};
 ghost use Rattle.book.specs.Cells.{By, KeySet};

@@ -1,4 +1,6 @@
 // Whether a room is well formed: "one yes or no", block by block of the book's definition.
+#![tactic(auto)]
+
 ghost use Rattle.std.specs.Prelude.{◌≡◌, ◌&&◌, cond, ◌+◌, ◌^◌, ◌<◌, eqb, leb, length};
 ghost use Rattle.book.specs.Sizes.{halls_max, partitions_max, sessions_max, keys, places_max, slots};
 ghost use Rattle.book.specs.Cells.{cell};

@@ -1,4 +1,6 @@
 // Steps 11 to 13: report, share, learn.
+#![tactic(auto)]
+
 ghost use Rattle.std.specs.Prelude.{◌≡◌, ◌<◌, ltb, length};
 ghost use Rattle.book.specs.Sizes.{halls_max, partitions_max};
 ghost use Rattle.book.specs.Cells.{Halls, Note, Shared};

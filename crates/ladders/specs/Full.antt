@@ -1,6 +1,6 @@
 -- 10: "now only when a message would be sent"
 use Rattle.std.specs.Prelude.{ℕ, Bool, true, false, ◌&&◌, not, ◌≡◌, leb}
-use Rattle.std.proofs.Math.Bool.{and_true, and-false}
+use Rattle.std.proofs.Math.Bool.{and-true, and-false}
 use Rattle.book.specs.Sizes.{halls_max, slots}
 use Rattle.book.specs.Cells.{Store, Waiting}
 use Rattle.book.specs.Folds.{any}
@@ -14,7 +14,7 @@ by_quiet : (quiet : Bool) (other full : ℕ → Bool)
     → any halls_max (λ g. (not quiet && other g) && full g) ≡ (any halls_max (λ g. other g && full g) && not quiet)
 unfolding any
 by_quiet true other full = rw and-false
-by_quiet false other full = rw and_true
+by_quiet false other full = rw and-true
 
 -- whether an install is quiet may be asked once, and only where a channel is full
 pub asked_once : (σ : Store) (h p : ℕ)

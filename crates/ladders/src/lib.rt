@@ -1,4 +1,6 @@
 // "Turned away": for each step the first number that applies, 0 where none does. The numbers are any.
+#![tactic(auto)]
+
 ghost use Rattle.std.specs.Prelude.{◌≡◌, ℕ, ◌<◌, cond, ◌&&◌, ◌||◌, length, eqb, ltb};
 ghost use Rattle.book.specs.Refusals.{tick_refusal, start_refusal, read_refusal, write_refusal, end_refusal, prepare_refusal, decide_refusal, commit_refusal, install_refusal, deliver_refusal, server_refusal, share_refusal, move_refusal, session_there, transaction_there, unused, all_prepared};
 ghost use Rattle.book.specs.Sizes.{halls_max, partitions_max, keys, places_max};

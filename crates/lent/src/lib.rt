@@ -1,5 +1,7 @@
 // A server's clock, lent by `&mut` to thin functions. The work is done by a function over the clock by value, and a function by value stands
 // above each thin one, so that nobody else has to lend a clock.
+#![tactic(auto)]
+
 ghost use Rattle.std.specs.Prelude.{◌≡◌};
 ghost use Rattle.lent.specs.Moves.{ticked_clock, committed_clock, committed_hybrid};
 

@@ -1,4 +1,6 @@
 // Steps 9 and 10: install, deliver.
+#![tactic(auto)]
+
 ghost use Rattle.std.specs.Prelude.{◌≡◌, true, cond, ◌&&◌, ◌<◌, ◌≤◌, length, eqb};
 ghost use Rattle.book.specs.Sizes.{halls_max, partitions_max, places_max, slots};
 ghost use Rattle.book.specs.Cells.{State, Proposed, First, Waiting};

@@ -1,4 +1,6 @@
 // The lent room: a word for each cell of the book, read and written by a kind of cell and its indices.
+#![tactic(auto)]
+
 ghost use Rattle.std.specs.Prelude.{◌≡◌, cond, ◌<◌, length};
 ghost use Rattle.book.specs.Cells.{cell, ◌⟨◌≔◌⟩};
 ghost use Rattle.room.specs.Layout.{size, step_i, step_j, step_k, at, Within, store};

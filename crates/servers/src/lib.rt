@@ -1,4 +1,6 @@
 // Which servers there are, where a transaction stands, and which of the servers it writes at.
+#![tactic(auto)]
+
 ghost use Rattle.std.specs.Prelude.{◌≡◌, cond, ◌<◌, ◌≤◌, length};
 ghost use Rattle.book.specs.Sizes.{halls_max, places_max};
 ghost use Rattle.book.specs.Cells.{Halls, From};

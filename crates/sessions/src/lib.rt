@@ -1,4 +1,6 @@
 // Steps 2 to 5 and 14, for numbers that are not turned away.
+#![tactic(auto)]
+
 ghost use Rattle.std.specs.Prelude.{◌≡◌, true, false, cond, ◌&&◌, ◌+◌, ◌-◌, ◌≤◌, ◌<◌, length, eqb, leb};
 ghost use Rattle.book.specs.Sizes.{halls_max, partitions_max, sessions_max, keys, places_max};
 ghost use Rattle.book.specs.Cells.{cell, ◌⟨◌≔◌⟩, Transactions, WriteSet};

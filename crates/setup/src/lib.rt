@@ -1,4 +1,6 @@
 // "Setup": the numbers are laid out in a room of zeros, judged there, and only if they are good copied into the lent room.
+#![tactic(auto)]
+
 ghost use Rattle.std.specs.Prelude.{◌≡◌, ℕ, ◌≤◌, ◌<◌, length, get_or};
 ghost use Rattle.book.specs.Sizes.{partitions_max, sessions_max};
 ghost use Rattle.book.specs.Cells.{Cell, cell};

@@ -1,4 +1,6 @@
 // The store's face: a step, for any room and any four numbers.
+#![tactic(auto)]
+
 ghost use Rattle.std.specs.Prelude.{true, ◌≡◌, length};
 ghost use Rattle.book.specs.WellFormed.{well_formed};
 ghost use Rattle.book.specs.Steps.{rule_of, refusal};

@@ -1,4 +1,6 @@
 // "a version vector with one entry per hall holding its partition", by value.
+#![tactic(auto)]
+
 ghost use Rattle.std.specs.Prelude.{◌≡◌, ◌<◌, length};
 ghost use Rattle.book.specs.Sizes.{halls_max, partitions_max};
 ghost use Rattle.room.specs.Layout.{size, store};

@@ -1,4 +1,6 @@
 // "Views and merging": what a server knows of a key.
+#![tactic(auto)]
+
 ghost use Rattle.std.specs.Prelude.{◌≡◌, ◌&&◌, ◌<◌, length};
 ghost use Rattle.book.specs.Sizes.{halls_max, partitions_max, keys, places_max};
 ghost use Rattle.book.specs.Servers.{partition_of, number_of};

@@ -1,0 +1,12 @@
+use Rattle.std.proofs.Common.{◌-◌}
+use Rattle.book.specs.Sizes.{partitions_max}
+use Rattle.book.specs.WellFormed.{pair_ok}
+use Rattle.room.specs.Layout.{store}
+use Rattle.formed.specs.Passing.{Passed}
+use Rattle.formed.proofs.pairs_ok.Given as goal
+
+abbrev pub invariant-loop-p : goal.invariant-loop-p
+invariant-loop-p l = Passed partitions_max (pair_ok (store l.room) l.latest.0 l.t) l.p
+
+abbrev pub decreases-loop-p : goal.decreases-loop-p
+decreases-loop-p l = partitions_max - l.p
