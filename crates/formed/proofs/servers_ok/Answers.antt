@@ -14,7 +14,7 @@ returns-then-not-server_ok c = let l = c in
     let s = stops _ _ l.loop-p.p (omega arith) c.server_ok.ensures (ap not c.if-not-server_ok.true) in
     stops _ _ l.loop-h.h (omega arith) s refl
 
-pub loop-p-preserved : goal.loop-p-smaller
+pub loop-p-preserved : goal.loop-p-preserved
 loop-p-preserved c = let l = c.loop-p in
     goes_on _ _ l.p l.invariant.1 (omega arith) c.server_ok.ensures (ap not c.if-not-server_ok.false)
 

@@ -13,7 +13,7 @@ returns-then-not-in_time c = let l = c in
     let s = stops _ _ l.loop-f.f (omega arith) c.in_time.ensures (ap not c.if-not-in_time.true) in
     stops _ _ l.loop-to.to (omega arith) s refl
 
-pub loop-f-preserved : goal.loop-f-smaller
+pub loop-f-preserved : goal.loop-f-preserved
 loop-f-preserved c = let l = c.loop-f in
     goes_on _ _ l.f l.invariant.1 (omega arith) c.in_time.ensures (ap not c.if-not-in_time.false)
 
