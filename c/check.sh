@@ -8,18 +8,14 @@ seed=${2:-1}
 cd "$top/second" || exit 1
 . ./build.sh
 
-# The library is for x86-64: elsewhere the test needs a compiler for it, and runs under the kit's emulator.
+# The library is for x86-64, and so is the kit.
 compiler=${CC:-cc}
 if [ "$(uname -m)" != x86_64 ]; then
-    compiler=x86_64-linux-gnu-gcc
-    echo 'int main(void) { return 0; }' >"$work/try.c"
-    if ! "$compiler" -o "$work/try" "$work/try.c" 2>/dev/null; then
-        echo "c: skipped, since this is no x86-64 machine and has no $compiler that builds programs"
-        exit 0
-    fi
+    echo "c: skipped, since this is no x86-64 machine"
+    exit 0
 fi
 
-build staticlib/libcranktimber.a cranktimber staticlib || exit 1
+build staticlib/libcranktimber.a cranktimber_c lib || exit 1
 "$compiler" -std=c11 -O2 -Wall -Wextra -Werror -o "$work/test" ../c/test.c store.c "$top/target/staticlib/libcranktimber.a" ||
     { echo "c: the test does not build"; exit 1; }
 last=$((seed + count))
@@ -29,4 +25,4 @@ while [ "$seed" -lt "$last" ]; do
     done
     seed=$((seed + 1))
 done >"$work/scripts"
-run "$work/test" <"$work/scripts"
+"$work/test" <"$work/scripts"

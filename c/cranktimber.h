@@ -1,7 +1,7 @@
-/* The recipe store for C: link libcranktimber.a, which `rt staticlib cranktimber` proves and writes (x86-64 Linux).
+/* The recipe store for C: link libcranktimber.a, which `sh c/check.sh` proves and writes to target/staticlib/ (x86-64 Linux).
  *
  * Both functions are proved: for any room and any numbers, what is answered and every word of the room afterwards are those of
- * document 01 and of requests a to d of document 02 (contracts in crates/cranktimber/src/lib.rt). They ask nothing of the numbers.
+ * document 01 and of requests a to d of document 02 (contracts in crates/cranktimber_c/src/lib.rt). They ask nothing of the numbers.
  * Nothing checks a caller in C, so it must see to this: each pointer is to as many words as the length after it says, is aligned,
  * and is not NULL even where the length is 0; the room overlaps neither masks nor homes; and no other thread uses the room during a
  * call. The room is all the memory there is: the library keeps nothing between calls. A call of setup takes about 60 KB of stack. */

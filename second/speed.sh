@@ -1,6 +1,6 @@
 #!/bin/sh
 # How fast is bench, as a ratio to the second program: ten scripts of 8,000 steps, twenty times over, best of ten, in one run.
-# Only on x86-64: elsewhere bench runs under an emulator, and its time says nothing.
+# Only on x86-64, for which bench is compiled.
 [ "$(uname -m)" = x86_64 ] || { echo "speed: this is no x86-64 machine"; exit 0; }
 CDPATH='' cd -- "$(dirname -- "$0")" || exit 1
 . ./build.sh

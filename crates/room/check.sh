@@ -101,12 +101,12 @@ function names(c_words,   i, j, k, l, n, v, w, text, item, count, last, most, ow
     sub(/,[ \n]*$/, "", text)
     same(code " BASE, numbers", split(text, item, ","), kinds)
     for (n = 0; n < kinds; n++) same(code " BASE of " name_of[n], value("code", item[n + 1]), at[n, 0])
-    split("stepI stepJ stepK countI countJ countK countL", ladder, " ")
+    split("step_i step_j step_k count_i count_j count_k count_l", ladder, " ")
     for (i = 1; i <= 7; i++) each_rung(layout " " ladder[i], "book", antt_ladder(ladder[i]), i)
     split("step_i step_j step_k", ladder, " ")
     for (i = 1; i <= 3; i++) each_rung(code " " ladder[i], "code", code_ladder(ladder[i]), i)
     # cells that share a word need a ladder of their own in Layout
-    for (n = 0; n < kinds; n++) if (at[n, 8] != 1) { each_rung(layout " perWord", "book", antt_ladder("perWord"), 8); break }
+    for (n = 0; n < kinds; n++) if (at[n, 8] != 1) { each_rung(layout " per_word", "book", antt_ladder("per_word"), 8); break }
 
     # each word is that of one kind
     for (n = 0; n < kinds; n++) {
