@@ -2,7 +2,7 @@
 #![tactic(auto)]
 
 ghost use Rattle.std.specs.Prelude.{◌≡◌, ◌+◌, ◌≤◌, ◌<◌, IfOk};
-ghost use Rattle.wild.specs.Counted.{is_refused, counted as countedOf};
+ghost use Rattle.wild.specs.Counted.{is_refused, counted as counted_of};
 
 use book::Answer;
 use room::SIZE;
@@ -50,7 +50,7 @@ fn refused(a: Answer) -> bool
 
 fn counted(mut n: Count, a: Answer) -> Count
     requires { n.taken + n.away < 100 }
-    ensures { result ≡ countedOf n a }
+    ensures { result ≡ counted_of n a }
 {
     if refused(a) {
         n.away += 1;
