@@ -127,17 +127,20 @@ write_left σ s k v e =
       value = rw (eqb_refl s, eqb_refl k);
     })
 
--- There it stays until the session writes that key again or ends.
-pub write_stays : {σ τ : Store} (s k v : ℕ) → Reached σ → Meanwhile s k σ τ → Written σ s k v → Written τ s k v
-write_stays s k v r Meanwhile.none w = w
-write_stays s k v r (Meanwhile.more {τ} m code a b c o) w =
-    let w' = write_stays s k v r m w in
+stays : (s k v : ℕ) {σ τ : Store} → Reached σ → Meanwhile s k σ τ → Written σ s k v → Written τ s k v
+stays s k v r Meanwhile.none w = w
+stays s k v r (Meanwhile.more {τ} m code a b c o) w =
+    let w' = stays s k v r m w in
     by_eq (refusal τ code a b c) 0
     (λ q _. ⊎_elim
     (λ x. record { runs = x.0 ∙ w'.runs; has = x.1 ∙ w'.has; value = x.2 ∙ w'.value })
     (λ x. absurd (x.0 w'.runs))
     (spared τ (reached_later r (meanwhile_later s k m)) s k code a b c q (o q)))
     (λ q _. rw (refused_unchanged τ code a b c q).0 w')
+
+-- There it stays until the session writes that key again or ends.
+pub write_stays : {σ τ : Store} (s k v : ℕ) → Reached σ → Meanwhile s k σ τ → Written σ s k v → Written τ s k v
+write_stays s k v = stays s k v
 
 -- a read that is taken, of a key that is in the write set
 reads_own : (σ : Store) (s k h : ℕ) → refusal σ 3 s k h ≡ 0 → member (σ (WriteSet s)) k ≡ true
