@@ -13,7 +13,7 @@ use Rattle.book.specs.SessionSteps.{read_answer}
 use Rattle.book.specs.Steps.{rule_of, refusal, answer}
 use Rattle.book.specs.Reached.{Reached, Later}
 use Rattle.facts.specs.Step.{Step, Writing, over, by_reached, by_later}
-use Rattle.merging.specs.Merge.{of_all}
+use Rattle.merging.proofs.Merge.{of_all}
 
 -- a desk could have entered it
 abbrev pub Enterable : ℕ → Type 0

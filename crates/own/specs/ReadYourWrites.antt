@@ -17,7 +17,7 @@ use Rattle.book.specs.Reached.{Reached}
 use Rattle.bounds.specs.Formed.{formed}
 use Rattle.bounds.specs.WellFormedKept.{reached_well_formed}
 use Rattle.merging.specs.Stamps.{later_self}
-use Rattle.merging.specs.Merge.{of_all, latest}
+use Rattle.merging.proofs.Merge.{of_all, latest}
 use Rattle.snapshots.specs.TransactionKept.{decided_there}
 use Rattle.invariant.specs.Reach.{reached_inv}
 use Rattle.snapshots.specs.ReadAnswer.{read_answer_lem, reached_cached}

@@ -24,7 +24,8 @@ use Rattle.facts.specs.Facts.{decide_facts, Decides}
 use Rattle.bounds.specs.Formed.{formed}
 use Rattle.bounds.specs.WellFormedKept.{reached_well_formed}
 use Rattle.invariant.specs.OwnWrites.{reached_own}
-use Rattle.merging.specs.Merge.{view_of, wrote, decided_view_lem}
+use Rattle.merging.specs.Merge.{view_of, wrote}
+use Rattle.merging.proofs.Sets.{decided_view_lem}
 use Rattle.invariant.specs.Reach.{reached_inv}
 use Rattle.snapshots.specs.TransactionKept.{decided_there, transaction_kept}
 
