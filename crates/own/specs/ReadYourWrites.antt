@@ -15,7 +15,7 @@ use Rattle.book.specs.Views.{later, stamp_of, version, decided, wrote_by, decide
 use Rattle.book.specs.Steps.{refusal, answer}
 use Rattle.book.specs.Reached.{Reached}
 use Rattle.bounds.specs.Formed.{formed}
-use Rattle.bounds.specs.WellFormedKept.{reached_well_formed}
+use Rattle.bounds.proofs.WellFormedKept.{reached_well_formed}
 use Rattle.merging.specs.Stamps.{later_self}
 use Rattle.merging.proofs.Merge.{of_all, latest}
 use Rattle.snapshots.specs.TransactionKept.{decided_there}

@@ -20,8 +20,8 @@ use Rattle.facts.specs.Frame.{servers}
 use Rattle.facts.specs.Step.{Step, Writing, over, by_reached}
 use Rattle.invariant.specs.Inv.{Inv}
 use Rattle.bounds.specs.Formed.{formed}
-use Rattle.bounds.specs.Pairs.{reached_stated}
-use Rattle.bounds.specs.WellFormedKept.{reached_well_formed}
+use Rattle.bounds.proofs.Pairs.{reached_stated}
+use Rattle.bounds.proofs.WellFormedKept.{reached_well_formed}
 use Rattle.invariant.specs.Sent.{sends_to_is, outgoing_is}
 use Rattle.snapshots.specs.Ever.{decision_some}
 use Rattle.invariant.specs.Reach.{reached_inv}

@@ -22,7 +22,7 @@ use Rattle.book.specs.Reached.{Reached, Later}
 use Rattle.book.specs.History.{Decided, ever_view, entry_of, decided_after, decided_ever}
 use Rattle.facts.specs.Facts.{decide_facts, Decides}
 use Rattle.bounds.specs.Formed.{formed}
-use Rattle.bounds.specs.WellFormedKept.{reached_well_formed}
+use Rattle.bounds.proofs.WellFormedKept.{reached_well_formed}
 use Rattle.invariant.specs.OwnWrites.{reached_own}
 use Rattle.merging.specs.Merge.{view_of, wrote}
 use Rattle.merging.proofs.Sets.{decided_view_lem}
