@@ -22,10 +22,10 @@ use Rattle.invariant.specs.Inv.{Inv}
 use Rattle.bounds.specs.Formed.{formed}
 use Rattle.bounds.proofs.Pairs.{reached_stated}
 use Rattle.bounds.proofs.WellFormedKept.{reached_well_formed}
-use Rattle.invariant.specs.Sent.{sends_to_is, outgoing_is}
-use Rattle.snapshots.specs.Ever.{decision_some}
-use Rattle.invariant.specs.Reach.{reached_inv}
-use Rattle.invariant.specs.OwnWrites.{reached_own}
+use Rattle.invariant.proofs.Sent.{sends_to_is, outgoing_is}
+use Rattle.snapshots.proofs.Ever.{decision_some}
+use Rattle.invariant.proofs.Reach.{reached_inv}
+use Rattle.invariant.proofs.OwnWrites.{reached_own}
 use Rattle.facts.specs.Calls.{Call, call, refusal_of, after_of, run, AllTaken, by_rule, run_append, taken_append}
 
 -- a session that is there

@@ -10,8 +10,8 @@ use Rattle.book.specs.Reached.{Reached}
 use Rattle.facts.specs.Facts.{start_facts}
 use Rattle.facts.specs.Step.{start_answers}
 use Rattle.invariant.specs.Inv.{Inv}
-use Rattle.invariant.specs.Gossip.{snapshot_below}
-use Rattle.invariant.specs.Reach.{reached_inv, reached_gossip}
+use Rattle.invariant.proofs.Gossip.{snapshot_below}
+use Rattle.invariant.proofs.Reach.{reached_inv, reached_gossip}
 
 -- what a start says of the present: S and the lag together
 abbrev pub told : Store → ℕ → ℕ

@@ -12,9 +12,9 @@ use Rattle.book.specs.ReplicationSteps.{has_prepared, version_clock, hybrid_afte
 use Rattle.book.specs.Steps.{rule_of, install_rule, refusal, after}
 use Rattle.book.specs.Reached.{Reached}
 use Rattle.invariant.specs.Inv.{Inv}
-use Rattle.invariant.specs.Install.{installs_is, installs_above}
-use Rattle.invariant.specs.Sent.{quiet_clock, quiet_silent}
-use Rattle.invariant.specs.Reach.{reached_inv}
+use Rattle.invariant.proofs.Install.{installs_is, installs_above}
+use Rattle.invariant.proofs.Sent.{quiet_clock, quiet_silent}
+use Rattle.invariant.proofs.Reach.{reached_inv}
 use Rattle.facts.specs.Calls.{call, by_rule}
 
 module _ (σ : Store) (I : Inv σ) (h p : ℕ) where

@@ -19,9 +19,9 @@ use Rattle.book.specs.Steps.{rule_of, install_rule, deliver_rule, report_rule, s
 use Rattle.book.specs.Reached.{Reached}
 use Rattle.facts.specs.Setup.{Setup, server_small}
 use Rattle.invariant.specs.Inv.{clock_at}
-use Rattle.invariant.specs.Install.{install_hybrid, install_other}
-use Rattle.invariant.specs.Sent.{quiet_clock, quiet_silent, sends_to_is, sends_to_i, outgoing_i}
-use Rattle.invariant.specs.Reach.{reached_inv}
+use Rattle.invariant.proofs.Install.{install_hybrid, install_other}
+use Rattle.invariant.proofs.Sent.{quiet_clock, quiet_silent, sends_to_is, sends_to_i, outgoing_i}
+use Rattle.invariant.proofs.Reach.{reached_inv}
 use Rattle.facts.specs.Calls.{Call, call, same_call, refusal_of, after_of, run, AllTaken, EachOnce, run_append, taken_append, by_rule, phase, cells_phase}
 
 -- L: "the lowest over servers of the larger of reading and hybrid clock"
