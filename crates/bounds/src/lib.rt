@@ -1,2 +1,2 @@
-// Every step keeps a store well formed; no timestamp, pair or value passes its bound: theorems only, in proofs/; what they speak of stands in specs/.
+// Every step keeps a store well formed; no timestamp, pair or value passes its bound: theorems only, in proofs/ and specs/.
 #![tactic(auto)]

@@ -1,2 +1,2 @@
-// What every reached store has, and each step keeps: theorems only, in proofs/; what they speak of stands in specs/.
+// What every reached store has, and each step keeps: theorems only, in proofs/ and specs/.
 #![tactic(auto)]

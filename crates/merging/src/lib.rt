@@ -1,2 +1,2 @@
-// Merging does not depend on order, grouping or repeats: theorems only, in proofs/; what they speak of stands in specs/.
+// Merging does not depend on order, grouping or repeats: theorems only, in proofs/ and specs/.
 #![tactic(auto)]

@@ -10,7 +10,7 @@ use Rattle.book.specs.Reached.{Reached}
 use Rattle.bounds.specs.Formed.{All2, Times}
 use Rattle.bounds.proofs.WellFormedKept.{reached_well_formed}
 use Rattle.bounds.proofs.Bound.{bound}
-use Rattle.rounds.specs.Quiet.{quiet_install}
+use Rattle.rounds.proofs.Quiet.{quiet_install}
 use Rattle.room.specs.Layout.{size, store}
 use Rattle.store.specs.Face.{Stepped, sound, no_word}
 use Rattle.rooms.specs.Refused.{given, one_exactly}
