@@ -1,11 +1,2 @@
 pub mod Inv
-pub mod Gossip
-pub mod Clocks
-pub mod Install
-pub mod Sent
-pub mod Deliver
-pub mod Transactions
-pub mod Begun
-pub mod Reach
-pub mod Writer
 pub mod OwnWrites

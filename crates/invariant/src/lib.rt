@@ -1,3 +1,2 @@
-// What every reached store has, and each step keeps: theorems only, in specs/.
+// What every reached store has, and each step keeps: theorems only, in proofs/ and specs/.
 #![tactic(auto)]
-

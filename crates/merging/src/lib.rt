@@ -1,3 +1,2 @@
-// Merging does not depend on order, grouping or repeats: theorems only, in specs/.
+// Merging does not depend on order, grouping or repeats: theorems only, in proofs/ and specs/.
 #![tactic(auto)]
-

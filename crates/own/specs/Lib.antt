@@ -1,3 +1,2 @@
 pub mod ReadYourWrites
-pub mod Carried
 pub mod Ended

@@ -8,9 +8,9 @@ use Rattle.book.specs.Servers.{holds}
 use Rattle.book.specs.ReplicationSteps.{is_quiet}
 use Rattle.book.specs.Reached.{Reached}
 use Rattle.bounds.specs.Formed.{All2, Times}
-use Rattle.bounds.specs.WellFormedKept.{reached_well_formed}
-use Rattle.bounds.specs.Bound.{bound}
-use Rattle.rounds.specs.Quiet.{quiet_install}
+use Rattle.bounds.proofs.WellFormedKept.{reached_well_formed}
+use Rattle.bounds.proofs.Bound.{bound}
+use Rattle.rounds.proofs.Quiet.{quiet_install}
 use Rattle.room.specs.Layout.{size, store}
 use Rattle.store.specs.Face.{Stepped, sound, no_word}
 use Rattle.rooms.specs.Refused.{given, one_exactly}

@@ -9,7 +9,7 @@ use Rattle.book.specs.Setup.{setup_refusal, first_store}
 use Rattle.book.specs.Answers.{numbers}
 use Rattle.book.specs.Steps.{refusal, after, answer, answer_refusal}
 use Rattle.book.specs.Reached.{Reached, Later}
-use Rattle.bounds.specs.WellFormedKept.{reached_well_formed}
+use Rattle.bounds.proofs.WellFormedKept.{reached_well_formed}
 use Rattle.room.specs.Layout.{size, store}
 use Rattle.room.specs.Lay.{length_lay}
 use Rattle.setup.specs.SetUp.{SetUp, setup_given, setup_room, setup_store}

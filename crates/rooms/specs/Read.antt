@@ -9,10 +9,12 @@ use Rattle.book.specs.Cells.{Snapshot}
 use Rattle.book.specs.Answers.{view_numbers, numbers}
 use Rattle.book.specs.Steps.{view_taken}
 use Rattle.book.specs.History.{Decided, ever_view, decided_after, decided_ever}
-use Rattle.invariant.specs.Reach.{reached_later}
-use Rattle.snapshots.specs.Ever.{Ledger, ledger_view, ledger_none, ledger_step, ever_decided}
-use Rattle.snapshots.specs.SnapshotRead.{Fetches, snapshot_read}
-use Rattle.snapshots.specs.LaterView.{later_never_alters, later_read}
+use Rattle.invariant.proofs.Reach.{reached_later}
+use Rattle.snapshots.specs.Ever.{Ledger}
+use Rattle.snapshots.proofs.Ever.{ledger_view, ledger_none, ledger_step, ever_decided}
+use Rattle.snapshots.specs.SnapshotRead.{Fetches}
+use Rattle.snapshots.proofs.SnapshotRead.{snapshot_read}
+use Rattle.snapshots.proofs.LaterRead.{later_never_alters, later_read}
 use Rattle.room.specs.Layout.{store}
 use Rattle.store.specs.Face.{Stepped}
 use Rattle.rooms.specs.Refused.{given}

@@ -6,7 +6,8 @@ use Rattle.book.specs.Sizes.{partitions_max, places_max}
 use Rattle.book.specs.Cells.{Store, Stable, State, prepared, Waiting}
 use Rattle.book.specs.Servers.{holds}
 use Rattle.facts.specs.Calls.{Call, after_of, AllTaken, EachOnce, run, run_append}
-use Rattle.rounds.specs.Round.{is_channel, at_server, with_message, between_halls, lowest_present, full_round}
+use Rattle.rounds.specs.Round.{is_channel, at_server, with_message, between_halls, lowest_present}
+use Rattle.rounds.proofs.Round.{full_round}
 use Rattle.room.specs.Layout.{store}
 use Rattle.store.specs.Face.{Stepped}
 use Rattle.rooms.specs.Refused.{given}

@@ -5,7 +5,8 @@ use Rattle.book.specs.declared.Answer.{Answer}
 use Rattle.book.specs.Sizes.{halls_max, partitions_max}
 use Rattle.book.specs.Cells.{cell, Store}
 use Rattle.book.specs.Cases.{by_test, and_true}
-use Rattle.progress.specs.Stretches.{is_at, SameStretch, own_stretch}
+use Rattle.progress.specs.Stretches.{is_at, SameStretch}
+use Rattle.progress.proofs.Stretches.{own_stretch}
 use Rattle.room.specs.Layout.{at, Within, store, cell_at, stretch, start}
 use Rattle.room.specs.Words.{valid_within, covers, store_get}
 use Rattle.room.specs.Stretch.{five, own_i, stretch_cells}

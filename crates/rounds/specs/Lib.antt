@@ -1,4 +1,3 @@
 pub mod Lag
-pub mod Quiet
 pub mod Round
 pub mod RoundLists

@@ -7,7 +7,7 @@ use Rattle.book.specs.Cases.{by_test, by_eq, and_true}
 use Rattle.book.specs.Reached.{Reached}
 use Rattle.facts.specs.Calls.{Call, call, same_call, same_call_lem, times, EachOnce}
 use Rattle.rounds.specs.Round.{at_server, in_channel, with_message, between_halls}
-use Rattle.invariant.specs.Reach.{reached_inv}
+use Rattle.invariant.proofs.Reach.{reached_inv}
 use Rattle.facts.specs.Setup.{server_small}
 
 -- f's lists for n - 1, .. 1, 0, one after another

@@ -10,7 +10,7 @@ use Rattle.book.specs.Cases.{by_eq}
 use Rattle.book.specs.Answers.{triple, numbers}
 use Rattle.book.specs.Setup.{first_store, setup_refusal, setup_answer}
 use Rattle.book.specs.WellFormed.{well_formed}
-use Rattle.bounds.specs.WellFormedKept.{setup_formed}
+use Rattle.bounds.proofs.WellFormedKept.{setup_formed}
 use Rattle.room.specs.Layout.{size, store}
 use Rattle.room.specs.Lay.{lay, length_lay}
 use Rattle.setup.specs.SetUp.{SetUp}

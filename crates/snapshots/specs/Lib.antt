@@ -1,5 +1,4 @@
 pub mod TransactionKept
 pub mod Ever
 pub mod SnapshotRead
-pub mod LaterView
 pub mod ReadAnswer

@@ -11,7 +11,7 @@ use Rattle.facts.specs.Facts.{tick_facts, start_facts, read_facts, write_facts, 
 use Rattle.facts.specs.Tally.{prepared_most}
 use Rattle.facts.specs.Setup.{Setup, good_setup_lem, server_small}
 use Rattle.bounds.specs.Formed.{Formed, Times, formed}
-use Rattle.bounds.specs.KeptSteps.{times_le}
+use Rattle.bounds.proofs.KeptSteps.{times_le}
 use Rattle.ladders.specs.Sized.{Sized}
 use Rattle.views.specs.Partitions.{Parted}
 use Rattle.sessions.specs.Starting.{Homed}

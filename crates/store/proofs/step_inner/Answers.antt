@@ -1,5 +1,5 @@
 use Rattle.std.proofs.Common.{sym, ◌∙◌}
-use Rattle.bounds.specs.WellFormedKept.{well_formed_kept}
+use Rattle.bounds.proofs.WellFormedKept.{well_formed_kept}
 use Rattle.room.specs.Layout.{store}
 use Rattle.store.specs.Granted.{sized, coordinated_all, timely}
 use Rattle.store.specs.Face.{turned_away_lem, taken}

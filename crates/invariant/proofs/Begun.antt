@@ -5,7 +5,7 @@ use Rattle.std.proofs.Common.{sym, ◌∙◌, arith}
 use Rattle.book.specs.Sets.{member_none}
 use Rattle.book.specs.Setup.{first_store, setup_refusal}
 use Rattle.facts.specs.Setup.{good_setup_lem}
-use Rattle.bounds.specs.WellFormedKept.{setup_good}
+use Rattle.bounds.proofs.WellFormedKept.{setup_good}
 use Rattle.invariant.specs.Inv.{Gossip, Inv}
 
 -- nothing is under way in a first store

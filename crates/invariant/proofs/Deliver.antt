@@ -8,7 +8,7 @@ use Rattle.book.specs.Sets.{member}
 use Rattle.book.specs.Servers.{writer}
 use Rattle.book.specs.ReplicationSteps.{deliver}
 use Rattle.invariant.specs.Inv.{Clocks, clock_at, set_at, Channels, Queued, Holding, Inv, Grown}
-use Rattle.invariant.specs.Install.{has_place}
+use Rattle.invariant.proofs.Install.{has_place}
 
 -- once the oldest is taken, the i-th message is the one that was the next
 pub shift : (a i : ℕ) → ((a + 1) % slots + i) % slots ≡ (a + suc i) % slots

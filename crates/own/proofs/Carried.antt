@@ -1,7 +1,6 @@
 -- Steps go on, and sessions are carried from hall to hall: what goes along, and what stays.
 use Rattle.std.specs.Prelude.{ℕ, max, ◌≤◌, ◌<◌, true, ◌≡◌, refl, leb}
 use Rattle.std.proofs.Common.{◌∙◌, inl, inr, le_trans, arith, leb-true, leb-false, eq-eqb, lt-ltb}
-use Rattle.book.specs.Sizes.{keys}
 use Rattle.book.specs.Cells.{Store, Sessions, Stable, Snapshot, By, CommitTime, KeySet}
 use Rattle.book.specs.Cases.{by_test, eqb_refl}
 use Rattle.book.specs.Sets.{member}
@@ -12,10 +11,11 @@ use Rattle.book.specs.Steps.{rule_of, refusal, after, answer}
 use Rattle.book.specs.Reached.{Reached, Later}
 use Rattle.facts.specs.Facts.{move_facts}
 use Rattle.facts.specs.Step.{start_answers}
-use Rattle.invariant.specs.Reach.{reached_later, reached_inv}
-use Rattle.snapshots.specs.LaterView.{snapshots_rise}
-use Rattle.snapshots.specs.TransactionKept.{decided_there, transaction_kept}
-use Rattle.own.specs.ReadYourWrites.{Looks, Shows, ShowsNoOlder, reads_no_older, read_shows}
+use Rattle.invariant.proofs.Reach.{reached_later, reached_inv}
+use Rattle.snapshots.proofs.LaterView.{snapshots_rise}
+use Rattle.snapshots.proofs.TransactionKept.{decided_there, transaction_kept}
+use Rattle.own.specs.ReadYourWrites.{Looks, Shows, ShowsNoOlder}
+use Rattle.own.proofs.ReadYourWrites.{reads_no_older, read_shows}
 
 -- What a start answers for S is no lower than any snapshot that the session had before, wherever it has been carried since.
 pub start_rises : {σ τ : Store} → Later σ τ → (s : ℕ) → refusal τ 2 s 0 0 ≡ 0 → σ (Snapshot s) ≤ (numbers (answer τ 2 s 0 0)).first

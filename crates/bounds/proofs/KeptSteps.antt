@@ -1,22 +1,18 @@
 -- Each step keeps the facts of a well formed store.
-use Rattle.std.specs.Prelude.{ℕ, suc, ◌-◌, ◌≤◌, ◌<◌, ◌^◌, Bool, true, false, cond, ◌&&◌, ◌≡◌, ◌∷◌, eqb, ltb, leb}
+use Rattle.std.specs.Prelude.{ℕ, suc, ◌-◌, ◌≤◌, ◌<◌, ◌^◌, Bool, true, false, cond, ◌&&◌, ◌≡◌, eqb, ltb, leb}
 use Rattle.std.proofs.Common.{le_trans, arith, lt-ltb, le-ltb, ltb-true, eqb-true}
 use Rattle.book.specs.Sizes.{halls_max, partitions_max, sessions_max, keys, places_max, slots, reading_max}
 use Rattle.book.specs.Cells.{Cell, Store, same, ◌⟨◌≔◌⟩, Halls, Partitions, Sessions, Transactions, Reading, Hybrid, Stable, Entry, HomeHall, HomePartition, Status, Snapshot, LastCommit, WriteSet, ReadSet, CacheTime, By, From, CommitTime, KeySet, State, Proposed, First, Waiting, ClockSent, Note, Shared}
 use Rattle.book.specs.Cases.{by_test, choose, by_eq, by_cell, and_true, unwritten, at_same}
 use Rattle.book.specs.Folds.{lowest_within, largest_within}
 use Rattle.book.specs.Sets.{member, include_lt}
-use Rattle.book.specs.Servers.{holds, holds_hall, writer, place_of}
+use Rattle.book.specs.Servers.{holds, holds_hall, writer}
 use Rattle.book.specs.WellFormed.{time_bound}
 use Rattle.book.specs.Answers.{numbers}
 use Rattle.book.specs.SessionSteps.{snapshot, start, read, write, ask, read_answer, touches, move}
 use Rattle.book.specs.CommitSteps.{tick, proposal, prepare, decision, decide, commitment, commit}
 use Rattle.book.specs.ReplicationSteps.{prepared_at, has_prepared, version_clock, hybrid_after, installs, sends_to, outgoing, next_slot, slot_of, install, deliver}
 use Rattle.book.specs.GossipSteps.{lowest_entry, report, lowest_of, share, lowest_shared, stable_after, learn}
-use Rattle.book.specs.Steps.{after}
-use Rattle.facts.specs.Frame.{servers}
-use Rattle.facts.specs.Facts.{room_left}
-use Rattle.facts.specs.Step.{Step, Writing, Taken, over}
 use Rattle.facts.specs.Tally.{prepared_le, prepared_lt}
 use Rattle.facts.specs.Setup.{Setup, good_setup_lem, server_small, move_good}
 use Rattle.bounds.specs.Formed.{All1, All2, All3, Times, Formed, writer_small}
@@ -73,10 +69,10 @@ module _ (σ : Store) (F : Formed σ) where
   U : Setup σ
   U = good_setup_lem σ F.setup
 
-  tick_formed : (h p x : ℕ) → x ≤ reading_max → Formed (tick σ h p x)
+  pub tick_formed : (h p x : ℕ) → x ≤ reading_max → Formed (tick σ h p x)
   tick_formed h p x l = let reading = put2 (◌≤ reading_max) σ Reading h p x l F.reading in search
 
-  start_formed : (s : ℕ) → s < σ Sessions → Formed (start σ s)
+  pub start_formed : (s : ℕ) → s < σ Sessions → Formed (start σ s)
   start_formed s l =
       let h = σ (HomeHall s) in
       let p = σ (HomePartition s) in
@@ -93,23 +89,23 @@ module _ (σ : Store) (F : Formed σ) where
       let reads = put1 (◌< 2 ^ keys) σ ReadSet s 0 (omega arith) F.reads in
       search
 
-  read_formed : (s k h : ℕ) → s < σ Sessions → k < keys → Formed (read σ s k h)
+  pub read_formed : (s k h : ℕ) → s < σ Sessions → k < keys → Formed (read σ s k h)
   read_formed s k h l m =
       let x = F.reads s (omega (arith, U)) in
       let new = choose (◌< 2 ^ keys) (eqb (numbers (read_answer σ s k h)).first 1) (include_lt keys _ k x m) x in
       let reads = put1 (◌< 2 ^ keys) σ ReadSet s _ new F.reads in
       search
 
-  write_formed : (s k v : ℕ) → s < σ Sessions → k < keys → Formed (write σ s k v)
+  pub write_formed : (s k v : ℕ) → s < σ Sessions → k < keys → Formed (write σ s k v)
   write_formed s k v l m =
       let new = include_lt keys _ k (F.writes s (omega (arith, U))) m in
       let writes = put1 (◌< 2 ^ keys) σ WriteSet s _ new F.writes in
       search
 
-  rest_formed : (s : ℕ) → Formed (σ ⟨ Status s ≔ 0 ⟩)
+  pub rest_formed : (s : ℕ) → Formed (σ ⟨ Status s ≔ 0 ⟩)
   rest_formed s = let status = put1 (◌≤ 2) σ Status s 0 (omega arith) F.status in search
 
-  ask_formed : (s : ℕ) → s < σ Sessions → σ Transactions < places_max → Formed (ask σ s)
+  pub ask_formed : (s : ℕ) → s < σ Sessions → σ Transactions < places_max → Formed (ask σ s)
   ask_formed s l m =
       let t = σ Transactions in
       let home = holds_hall σ (σ (HomeHall s)) (σ (HomePartition s)) (U.homes s l) in
@@ -147,7 +143,7 @@ module _ (σ : Store) (F : Formed σ) where
         (λ k c. rw (c, ← k.i, lt-ltb t (σ Transactions) l) m)
         (λ c. rw c (F.state u q i j))
 
-  prepare_formed : (t p : ℕ) → t < σ Transactions → p < σ Partitions → σ (State t p) ≡ 1 → Formed (prepare σ t p)
+  pub prepare_formed : (t p : ℕ) → t < σ Transactions → p < σ Partitions → σ (State t p) ≡ 1 → Formed (prepare σ t p)
   prepare_formed t p l m e =
       let i : t < places_max = omega (arith, F.places) in
       let j : p < partitions_max = omega (arith, U) in
@@ -169,7 +165,7 @@ module _ (σ : Store) (F : Formed σ) where
       λ u q i j e. by_cell (State t p) (State u q) (λ k c. rw c (omega arith)) (λ c. rw c (F.prepared u q i j (rw c at e))) in
       search
 
-  decide_formed : (t : ℕ) → t < σ Transactions → Formed (decide σ t)
+  pub decide_formed : (t : ℕ) → t < σ Transactions → Formed (decide σ t)
   decide_formed t l =
       let s = σ (By t) in
       let i : t < places_max = omega (arith, F.places) in
@@ -184,7 +180,7 @@ module _ (σ : Store) (F : Formed σ) where
       let status = put1 (◌≤ 2) σ Status s 0 (omega arith) F.status in
       search
 
-  commit_formed : (t p : ℕ) → t < σ Transactions → p < σ Partitions → σ (State t p) ≡ 2 → Formed (commit σ t p)
+  pub commit_formed : (t p : ℕ) → t < σ Transactions → p < σ Partitions → σ (State t p) ≡ 2 → Formed (commit σ t p)
   commit_formed t p l m e =
       let i : t < places_max = omega (arith, F.places) in
       let j : p < partitions_max = omega (arith, U) in
@@ -202,7 +198,7 @@ module _ (σ : Store) (F : Formed σ) where
       λ u q i j e. F.prepared u q i j (unwritten (same (State t p) (State u q)) 3 _ 2 (λ x. omega arith) e).1 in
       search
 
-  install_formed : (h p : ℕ) → holds σ h p ≡ true → ((g : ℕ) → g < halls_max → sends_to σ h p g ≡ true → σ (Waiting g p h) < slots)
+  pub install_formed : (h p : ℕ) → holds σ h p ≡ true → ((g : ℕ) → g < halls_max → sends_to σ h p g ≡ true → σ (Waiting g p h) < slots)
       → Formed (install σ h p)
   install_formed h p e room =
       let k = server_small σ U h p e in
@@ -237,7 +233,7 @@ module _ (σ : Store) (F : Formed σ) where
       λ t q i j e. F.prepared t q i j (unwritten (eqb p q && installs σ h p t) 4 _ 2 (λ x. omega arith) e).1 in
       search
 
-  deliver_formed : (p f g : ℕ) → holds σ f p ≡ true → holds σ g p ≡ true → Formed (deliver σ p f g)
+  pub deliver_formed : (p f g : ℕ) → holds σ f p ≡ true → holds σ g p ≡ true → Formed (deliver σ p f g)
   deliver_formed p f g e e' =
       let k = server_small σ U f p e in
       let m = server_small σ U g p e' in
@@ -248,21 +244,21 @@ module _ (σ : Store) (F : Formed σ) where
       let waiting = put3 (◌≤ slots) σ Waiting g p f (σ (Waiting g p f) - 1) (omega arith) F.waiting in
       search
 
-  report_formed : (h p : ℕ) → holds σ h p ≡ true → Formed (report σ h p)
+  pub report_formed : (h p : ℕ) → holds σ h p ≡ true → Formed (report σ h p)
   report_formed h p e =
       let k = server_small σ U h p e in
       let new : lowest_entry σ h p ≤ b = lowest_within halls_max _ (λ g. σ (Entry h p g)) b (λ g. T.entry h p g k.0 k.1) in
       let note = put2 (◌≤ b) σ Note h p _ new T.note in
       search
 
-  share_formed : (f to : ℕ) → f < σ Halls → Formed (share σ f to)
+  pub share_formed : (f to : ℕ) → f < σ Halls → Formed (share σ f to)
   share_formed f to l =
       let k : f < halls_max = omega (arith, U) in
       let new : lowest_of σ f ≤ b = lowest_within partitions_max _ (λ p. σ (Note f p)) b (λ p. T.note f p k) in
       let shared = put2 (◌≤ b) σ Shared to f _ new T.shared in
       search
 
-  learn_formed : (h p : ℕ) → holds σ h p ≡ true → Formed (learn σ h p)
+  pub learn_formed : (h p : ℕ) → holds σ h p ≡ true → Formed (learn σ h p)
   learn_formed h p e =
       let k = server_small σ U h p e in
       let x = T.stable h p k.0 k.1 in
@@ -270,29 +266,5 @@ module _ (σ : Store) (F : Formed σ) where
       let stable = put2 (◌≤ b) σ Stable h p (stable_after σ h p) (omega arith) T.stable in
       search
 
-  move_formed : (s h p : ℕ) → holds σ h p ≡ true → Formed (move σ s h p)
+  pub move_formed : (s h p : ℕ) → holds σ h p ≡ true → Formed (move σ s h p)
   move_formed s h p e = let setup = move_good σ F.setup s h p e in search
-
--- `Formed` reads most kinds
-step_writes : (σ : Store) → Formed σ → {τ : Store}
-    → Writing σ (Sessions ∷ Transactions ∷ Reading 0 0 ∷ Hybrid 0 0 ∷ Stable 0 0 ∷ Entry 0 0 0 ∷ HomeHall 0 ∷ HomePartition 0 ∷ Status 0
-    ∷ Snapshot 0 ∷ LastCommit 0 ∷ WriteSet 0 ∷ ReadSet 0 ∷ CacheTime 0 0 ∷ By 0 ∷ From 0 ∷ CommitTime 0 ∷ KeySet 0 ∷ State 0 0 ∷ Proposed 0 0
-    ∷ First 0 0 0 ∷ Waiting 0 0 0 ∷ ClockSent 0 0 0 0 ∷ Note 0 0 ∷ Shared 0 0 ∷ servers) τ → Formed τ
-step_writes σ F (Step.ticks h p x f) = tick_formed σ F h p x f.most
-step_writes σ F (Step.starts s f) = start_formed σ F s f.there
-step_writes σ F (Step.reads s k h f) = read_formed σ F s k h f.there f.key
-step_writes σ F (Step.writes s k v f) = write_formed σ F s k v f.there f.key
-step_writes σ F (Step.asks s f q) = ask_formed σ F s f.there (room_left σ s f q)
-step_writes σ F (Step.rests s f q) = rest_formed σ F s
-step_writes σ F (Step.prepares n p f) = prepare_formed σ F (place_of n) p f.there f.partition f.state
-step_writes σ F (Step.decides n f) = decide_formed σ F (place_of n) f.there
-step_writes σ F (Step.commits n p f) = commit_formed σ F (place_of n) p f.there f.partition f.state
-step_writes σ F (Step.installs h p f) = install_formed σ F h p f.server f.room
-step_writes σ F (Step.delivers p f g w) = deliver_formed σ F p f g w.sender w.receiver
-step_writes σ F (Step.reports h p f) = report_formed σ F h p f.server
-step_writes σ F (Step.shares f to w) = share_formed σ F f to w.sender
-step_writes σ F (Step.learns h p f) = learn_formed σ F h p f.server
-step_writes σ F (Step.moves s h p f) = move_formed σ F s h p f.server
-
-pub step_formed : (σ : Store) → Formed σ → {τ : Store} → Taken σ τ → Formed τ
-step_formed σ F x = over Formed x (step_writes σ F) F

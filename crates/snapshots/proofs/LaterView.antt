@@ -2,8 +2,7 @@
 use Rattle.std.specs.Prelude.{ℕ, ◌≤◌, ◌<◌, true, false, ◌&&◌, ◌≡◌, refl, ◌⊎◌, [], ◌∷◌, eqb, ltb, leb}
 use Rattle.std.proofs.lemmas.Bool.{false≢true, lt-leb}
 use Rattle.std.proofs.Math.Bool.{and-false}
-use Rattle.std.proofs.Common.{sym, ◌∙◌, ⊎_elim, mod-lt, le_trans, le_refl, arith, eq-eqb}
-use Rattle.book.specs.declared.Answer.TheVariants.{Read}
+use Rattle.std.proofs.Common.{◌∙◌, ⊎_elim, mod-lt, le_trans, le_refl, arith, eq-eqb}
 use Rattle.book.specs.Sizes.{partitions_max, keys, places_max}
 use Rattle.book.specs.Cells.{Store, Entry, Transactions, Snapshot, CommitTime, KeySet, State, prepared, Proposed, From, Value}
 use Rattle.book.specs.Cases.{by_test, by_eq, by_cell}
@@ -11,17 +10,14 @@ use Rattle.book.specs.Folds.{largest_ge}
 use Rattle.book.specs.Sets.{member}
 use Rattle.book.specs.Servers.{partition_of, writer, place_of}
 use Rattle.book.specs.Views.{decided_view}
-use Rattle.book.specs.SessionSteps.{snapshot, ask}
+use Rattle.book.specs.SessionSteps.{ask}
 use Rattle.book.specs.CommitSteps.{decision, decide}
-use Rattle.book.specs.Steps.{refusal, answer}
-use Rattle.book.specs.History.{ever_view, decided_ever}
 use Rattle.book.specs.Reached.{Reached, Later}
 use Rattle.facts.specs.Step.{Step, Writing, over, by_later}
 use Rattle.invariant.specs.Inv.{Inv, Below}
-use Rattle.invariant.specs.Writer.{writer_holds}
-use Rattle.invariant.specs.Reach.{reached_later, reached_inv, reached_gossip, later_inv, later_below}
-use Rattle.snapshots.specs.Ever.{ever_decided}
-use Rattle.snapshots.specs.SnapshotRead.{merge_all_agree, Fetches, snapshot_read}
+use Rattle.invariant.proofs.Writer.{writer_holds}
+use Rattle.invariant.proofs.Reach.{reached_inv, reached_gossip, later_inv, later_below}
+use Rattle.snapshots.proofs.SnapshotRead.{merge_all_agree}
 
 -- a transaction that writes a key and is decided now is decided above its writing server's version clock
 pub decide_past : (σ : Store) → Inv σ → (S t k : ℕ) → k < keys
@@ -85,7 +81,7 @@ module _ (σ : Store) (I : Inv σ) (S : ℕ) (B : Below σ S) where
   step_view k kb (Step.asks s f q) = ask_view s k
   step_view k kb (Step.decides n f) = decide_view (place_of n) k kb f.undecided f.states
 
-later_decided : {σ τ : Store} → Reached σ → Later σ τ → (s k : ℕ) → k < keys
+pub later_decided : {σ τ : Store} → Reached σ → Later σ τ → (s k : ℕ) → k < keys
     → decided_view τ k (σ (Snapshot s)) ≡ decided_view σ k (σ (Snapshot s))
 later_decided {σ} r w s k kb =
     let I = reached_inv r in
@@ -93,21 +89,6 @@ later_decided {σ} r w s k kb =
     by_later (λ τ. decided_view τ k S ≡ decided_view σ k S) refl
     (λ τ v e υ x. over (λ υ. decided_view υ k S ≡ decided_view τ k S) x
     (step_view τ (later_inv I v) S (later_below I S ((reached_gossip r).snapshot s) v) k kb) refl ∙ e) w
-
--- Later steps never alter the view at a session's snapshot of all that was decided. (Running or not.)
-pub later_never_alters : {σ τ : Store} (r : Reached σ) (w : Later σ τ) (s k : ℕ) → k < keys
-    → ever_view (decided_ever (reached_later r w)) k (σ (Snapshot s)) ≡ ever_view (decided_ever r) k (σ (Snapshot s))
-later_never_alters {σ} r w s k kb =
-    let S = σ (Snapshot s) in
-    ever_decided (reached_later r w) k S ∙ (later_decided r w s k kb ∙ sym (ever_decided r k S))
-
--- However much later, as long as the session has that snapshot still, a read at any hall that holds the key answers what it would have
--- answered.
-pub later_read : {σ τ : Store} (r : Reached σ) → Later σ τ → (s k h : ℕ) → Fetches τ s k h → τ (Snapshot s) ≡ σ (Snapshot s)
-    → (refusal τ 3 s k h ≡ 0) × (answer τ 3 s k h ≡ Read (ever_view (decided_ever r) k (σ (Snapshot s))))
-later_read r w s k h f e =
-    let x = snapshot_read (reached_later r w) s k h f in
-    (x.0, x.1 ∙ rw (e, later_never_alters r w s k f.key))
 
 step_snapshot : (σ : Store) (s : ℕ) {τ : Store} → Writing σ (Snapshot 0 ∷ []) τ → σ (Snapshot s) ≤ τ (Snapshot s)
 step_snapshot σ s (Step.starts s' f) = by_cell (Snapshot s') (Snapshot s) (λ q c. rw (c, ← q.i) (omega arith)) (λ c. rw c (le_refl _))

@@ -10,7 +10,7 @@ use Rattle.facts.specs.Setup.{good_setup_lem}
 use Rattle.bounds.specs.Formed.{formed, well_formed_lem}
 use Rattle.book.specs.Steps.{after}
 use Rattle.facts.specs.Step.{step_or_same}
-use Rattle.bounds.specs.KeptSteps.{step_formed}
+use Rattle.bounds.proofs.StepFormed.{step_formed}
 
 -- Whatever the four numbers, taken or turned away: a well formed store stays well formed.
 pub well_formed_kept : (σ : Store) (code a b c : ℕ) → well_formed σ ≡ true → well_formed (after σ code a b c) ≡ true

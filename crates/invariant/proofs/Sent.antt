@@ -11,8 +11,8 @@ use Rattle.book.specs.Servers.{holds, partition_of, writer}
 use Rattle.book.specs.ReplicationSteps.{version_clock, installs, number_installed, is_quiet, sends_to, outgoing, slot_of, next_slot, install}
 use Rattle.invariant.specs.Inv.{clock_at, set_at, Channels, Holding, Writes, Inv}
 use Rattle.facts.specs.Setup.{server_small}
-use Rattle.invariant.specs.Clocks.{state_stays}
-use Rattle.invariant.specs.Install.{installs_is, has_place, install_other, installs_above, clock_grows, install_grown}
+use Rattle.invariant.proofs.Clocks.{state_stays}
+use Rattle.invariant.proofs.Install.{installs_is, has_place, install_other, installs_above, clock_grows, install_grown}
 
 -- slots of one ring: the next is none of those in use
 slot_old : (a i c : ℕ) → i < c → c < slots → eqb ((a + c) % slots) ((a + i) % slots) ≡ false

@@ -7,8 +7,8 @@ use Rattle.book.specs.WellFormed.{time_bound}
 use Rattle.book.specs.Reached.{Reached}
 use Rattle.facts.specs.Tally.{prepared_most}
 use Rattle.bounds.specs.Formed.{All2, Times, formed}
-use Rattle.bounds.specs.KeptSteps.{times_le}
-use Rattle.bounds.specs.WellFormedKept.{reached_well_formed}
+use Rattle.bounds.proofs.KeptSteps.{times_le}
+use Rattle.bounds.proofs.WellFormedKept.{reached_well_formed}
 
 -- in a reached store no reading passes 2^48 - 1 and no timestamp of any kind 2^48 - 1 + 256
 pub bound : {σ : Store} → Reached σ → record { readings : All2 (◌≤ reading_max) σ Reading halls_max partitions_max; times : Times σ time_max }

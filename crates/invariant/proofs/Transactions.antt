@@ -10,7 +10,7 @@ use Rattle.book.specs.Servers.{holds_hall, partition_of}
 use Rattle.book.specs.SessionSteps.{touches, ask}
 use Rattle.book.specs.CommitSteps.{decide}
 use Rattle.invariant.specs.Inv.{Channels, Holding, Writes, Inv}
-use Rattle.invariant.specs.Clocks.{state_stays, decide_grows, ask_other, ask_old}
+use Rattle.invariant.proofs.Clocks.{state_stays, decide_grows, ask_other, ask_old}
 
 -- a set that has key k has one of k's partition
 pub touches_i : (σ : Store) (m k : ℕ) → k < keys → member m k ≡ true → touches σ m (partition_of σ k) ≡ true

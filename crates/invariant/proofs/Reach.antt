@@ -10,13 +10,13 @@ use Rattle.facts.specs.Facts.{room_left}
 use Rattle.facts.specs.Step.{Step, Writing, Taken, over, by_reached, by_later}
 use Rattle.facts.specs.Setup.{Setup, move_setup}
 use Rattle.invariant.specs.Inv.{Clocks, States, Channels, Holding, Gossip, Writes, Inv, Below}
-use Rattle.invariant.specs.Gossip.{report_gossip, share_gossip, learn_gossip, start_gossip, grow_gossip}
-use Rattle.invariant.specs.Clocks.{prepare_clocks, prepare_states, commit_clocks, commit_states, decide_clocks, decide_states, ask_clocks, ask_states}
-use Rattle.invariant.specs.Install.{install_grown, install_clocks, install_states}
-use Rattle.invariant.specs.Sent.{install_channels, install_holding, install_writes}
-use Rattle.invariant.specs.Deliver.{deliver_grown, deliver_clocks, deliver_channels, deliver_holding}
-use Rattle.invariant.specs.Transactions.{state_holding, state_writes, decide_channels, decide_holding, ask_holding, ask_writes}
-use Rattle.invariant.specs.Begun.{first_inv, first_gossip}
+use Rattle.invariant.proofs.Gossip.{report_gossip, share_gossip, learn_gossip, start_gossip, grow_gossip}
+use Rattle.invariant.proofs.Clocks.{prepare_clocks, prepare_states, commit_clocks, commit_states, decide_clocks, decide_states, ask_clocks, ask_states}
+use Rattle.invariant.proofs.Install.{install_grown, install_clocks, install_states}
+use Rattle.invariant.proofs.Sent.{install_channels, install_holding, install_writes}
+use Rattle.invariant.proofs.Deliver.{deliver_grown, deliver_clocks, deliver_channels, deliver_holding}
+use Rattle.invariant.proofs.Transactions.{state_holding, state_writes, decide_channels, decide_holding, ask_holding, ask_writes}
+use Rattle.invariant.proofs.Begun.{first_inv, first_gossip}
 
 -- group by group, over the steps that write a kind which it reads
 module _ (σ : Store) (I : Inv σ) where

@@ -8,7 +8,7 @@ use Rattle.book.specs.Folds.{lowest, lowest_le, lowest_ge, any_true, any_i}
 use Rattle.book.specs.Servers.{writer}
 use Rattle.book.specs.ReplicationSteps.{prepared_at, has_prepared, version_clock, hybrid_after, installs, install}
 use Rattle.invariant.specs.Inv.{Clocks, States, Inv, Grown}
-use Rattle.invariant.specs.Clocks.{hybrid_rises}
+use Rattle.invariant.proofs.Clocks.{hybrid_rises}
 
 -- what a transaction that is installed was
 pub installs_is : (σ : Store) (h p t : ℕ) → installs σ h p t ≡ true

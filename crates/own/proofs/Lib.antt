@@ -1,0 +1,3 @@
+pub mod ReadYourWrites
+pub mod Carried
+pub mod Ended

@@ -1,0 +1,4 @@
+pub mod Taken
+pub mod DecideTaken
+pub mod Readers
+pub mod Stretches

@@ -1,0 +1,9 @@
+pub mod Round
+pub mod QuietClock
+pub mod QuietCells
+pub mod QuietStays
+pub mod Quiet
+pub mod NeverLarger
+pub mod LagWhole
+pub mod Lag
+pub mod LagNone
