@@ -1,4 +1,6 @@
 // The store for C: setup and step under plain names, the answer as its three numbers. Their header is c/cranktimber.h.
+#![tactic(auto)]
+
 ghost use Rattle.setup.specs.SetUp.{setup_given, setup_room, setup_store};
 ghost use Rattle.store.specs.Face.{step_answer, step_room, step_store};
 ghost use Rattle.cranktimber.specs.Told.{Told};
