@@ -1,4 +1,6 @@
 // A script is run: each phase reads the text from its place on, prints all that is left to print, and calls the next phase last.
+#![tactic(auto)]
+
 ghost use Rattle.std.specs.Prelude.{true, ◌≡◌, ◌≤◌, length};
 ghost use Rattle.book.specs.Answers.{numbers};
 ghost use Rattle.book.specs.WellFormed.{well_formed};

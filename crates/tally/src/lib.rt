@@ -1,4 +1,6 @@
 // Scripts held to what is stored of them, and how many agree.
+#![tactic(auto)]
+
 ghost use Rattle.std.specs.Prelude.{◌≡◌, ◌+◌, ◌≤◌, ◌<◌, length};
 ghost use Rattle.book.specs.Folds.{count};
 ghost use Rattle.room.specs.Layout.{size};
