@@ -22,7 +22,7 @@ use Rattle.book.specs.Cells.{Store}
 use Rattle.book.specs.Cases.{by_test}
 use Rattle.book.specs.Answers.{numbers}
 use Rattle.book.specs.Setup.{good_setup, first_store, setup_refusal, setup_answer}
-use Rattle.book.specs.Steps.{refusal, after, answer, answer_refusal}
+use Rattle.book.specs.Steps.{after, answer, answer_refusal}
 use Rattle.facts.specs.Ladders.{in_table}
 use Rattle.script.specs.Printout.{text_max, Outcome, only, line_of, stop, refused, steps_from, counted_from, setup_from, sessions_from, halls_from, outcome}
 
