@@ -1,5 +1,5 @@
 -- The parts of a delivery, one after the other, and the book's rule.
-use Rattle.std.specs.Prelude.{ℕ, ◌-◌, ◌<◌, true, ◌&&◌, ◌≡◌, refl, eqb, ltb}
+use Rattle.std.specs.Prelude.{ℕ, ◌-◌, ◌<◌, true, ◌&&◌, ◌≡◌, refl, ltb}
 use Rattle.std.proofs.Common.{true≢false, sym, ap, subst, ◌∙◌, arith, get_or-set_same, get_or-set_other, ltb-true, lt-ltb}
 use Rattle.book.specs.declared.Timestamp.{Timestamp}
 use Rattle.book.specs.declared.Vector.{Vector}

@@ -1,5 +1,5 @@
 -- What a step may rely on once its ladder has let its numbers through a well formed store.
-use Rattle.std.specs.Prelude.{ℕ, ◌≤◌, ◌<◌, ◌-◌, true, false, ◌&&◌, ◌≡◌, leb}
+use Rattle.std.specs.Prelude.{ℕ, ◌≤◌, ◌<◌, true, false, ◌&&◌, ◌≡◌, leb}
 use Rattle.std.proofs.Common.{le_trans, arith}
 use Rattle.book.specs.Sizes.{halls_max, partitions_max, sessions_max, keys, places_max, slots, time_max}
 use Rattle.book.specs.Cells.{Store, Partitions, Sessions, Transactions, HomeHall, HomePartition, By, First, Waiting}

@@ -5,11 +5,11 @@ session_of-s-requires c = let place = c.place_of-t.ensures in (c.requires.0, pla
 
 pub move_to_cache-requires : goal.move_to_cache-requires
 move_to_cache-requires c = let place = c.place_of-t.ensures in (
-      c.put-4.ensures.0,
-      place.1,
-      c.session_of-s.ensures.1,
-      rw (c.put-4.ensures.1, c.put-3.ensures.1, c.put-2.ensures.1, c.put.ensures.1, place.0) c.requires.2.key_set,
-    )
+  c.put-4.ensures.0,
+  place.1,
+  c.session_of-s.ensures.1,
+  rw (c.put-4.ensures.1, c.put-3.ensures.1, c.put-2.ensures.1, c.put.ensures.1, place.0) c.requires.2.key_set,
+)
 
 pub returns : goal.returns
 returns c = let cached = c.move_to_cache.ensures in

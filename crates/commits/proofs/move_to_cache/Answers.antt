@@ -1,4 +1,4 @@
-use Rattle.std.proofs.Common.{◌-◌, ◌≡◌, ◌∙◌, arith, rules}
+use Rattle.std.proofs.Common.{◌≡◌, ◌∙◌, arith, rules}
 use Rattle.book.specs.Sizes.{keys}
 use Rattle.room.specs.Layout.{store}
 use Rattle.commits.specs.Cache.{cached_none, cached_next, cached_all}

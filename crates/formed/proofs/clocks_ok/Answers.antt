@@ -1,4 +1,4 @@
-use Rattle.std.proofs.Common.{◌-◌, arith, ap, not}
+use Rattle.std.proofs.Common.{arith, ap, not}
 use Rattle.formed.specs.Passing.{begins, stops, goes_on, ends}
 use Rattle.formed.proofs.clocks_ok.Goals as goal
 

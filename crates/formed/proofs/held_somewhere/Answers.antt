@@ -1,4 +1,4 @@
-use Rattle.std.proofs.Common.{◌-◌, false, ◌≡◌, sym, ◌∙◌, arith, rules}
+use Rattle.std.proofs.Common.{◌≡◌, sym, ◌∙◌, arith, rules}
 use Rattle.book.specs.Sizes.{halls_max}
 use Rattle.book.specs.Folds.{any_i}
 use Rattle.room.specs.Loops.{any_next}

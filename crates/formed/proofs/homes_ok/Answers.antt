@@ -1,5 +1,4 @@
-use Rattle.std.proofs.Common.{◌-◌, arith, ap, not}
-use Rattle.formed.specs.Blocks.{home_ok}
+use Rattle.std.proofs.Common.{arith, ap, not}
 use Rattle.formed.specs.Passing.{begins, stops, goes_on, ends}
 use Rattle.formed.proofs.homes_ok.Goals as goal
 

@@ -1,4 +1,4 @@
-use Rattle.std.proofs.Common.{◌-◌, ◌≡◌, arith, rules}
+use Rattle.std.proofs.Common.{◌≡◌, arith, rules}
 use Rattle.book.specs.Sizes.{places_max}
 use Rattle.room.specs.Layout.{store}
 use Rattle.room.specs.Loops.{sum_next}

@@ -1,4 +1,4 @@
-use Rattle.std.proofs.Common.{◌-◌, ◌≡◌, arith, rules}
+use Rattle.std.proofs.Common.{◌≡◌, arith, rules}
 use Rattle.book.specs.Sizes.{partitions_max}
 use Rattle.formed.specs.Counts.{highest_none, highest_next}
 use Rattle.formed.proofs.partitions_held.Goals as goal

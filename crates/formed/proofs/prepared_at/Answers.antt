@@ -1,4 +1,4 @@
-use Rattle.std.proofs.Common.{◌-◌, ◌≡◌, arith, leb, rules}
+use Rattle.std.proofs.Common.{◌≡◌, arith, leb, rules}
 use Rattle.book.specs.Sizes.{partitions_max}
 use Rattle.book.specs.Cells.{State, prepared}
 use Rattle.room.specs.Layout.{store}

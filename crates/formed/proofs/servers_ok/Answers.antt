@@ -1,5 +1,4 @@
-use Rattle.std.proofs.Common.{◌-◌, refl, arith, ap, not}
-use Rattle.book.specs.WellFormed.{server_ok}
+use Rattle.std.proofs.Common.{refl, arith, ap, not}
 use Rattle.formed.specs.Passing.{begins, stops, goes_on, ends}
 use Rattle.formed.proofs.servers_ok.Goals as goal
 

@@ -1,4 +1,4 @@
-use Rattle.std.proofs.Common.{◌-◌, ◌≡◌, ap, ◌∙◌, arith, rules}
+use Rattle.std.proofs.Common.{◌≡◌, ap, ◌∙◌, arith, rules}
 use Rattle.book.specs.Sizes.{halls_max}
 use Rattle.times.specs.declared.Lowest.{Lowest}
 use Rattle.times.specs.Lowest.{lowest_none, lowest_join}

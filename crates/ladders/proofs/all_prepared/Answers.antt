@@ -1,4 +1,4 @@
-use Rattle.std.proofs.Common.{◌-◌, ◌≡◌, refl, arith, rules}
+use Rattle.std.proofs.Common.{◌≡◌, refl, arith, rules}
 use Rattle.book.specs.Sizes.{partitions_max}
 use Rattle.book.specs.Folds.{all}
 use Rattle.room.specs.Loops.{all_next}

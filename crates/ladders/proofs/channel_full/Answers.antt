@@ -1,8 +1,7 @@
-use Rattle.std.proofs.Common.{◌-◌, ◌≡◌, refl, arith, rules}
+use Rattle.std.proofs.Common.{◌≡◌, refl, arith, rules}
 use Rattle.book.specs.Sizes.{halls_max}
 use Rattle.book.specs.Folds.{any}
 use Rattle.room.specs.Loops.{any_next}
-use Rattle.ladders.specs.Full.{full_to}
 use Rattle.ladders.proofs.channel_full.Goals as goal
 
 pub loop-g-init : goal.loop-g-init

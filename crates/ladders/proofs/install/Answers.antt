@@ -1,4 +1,4 @@
-use Rattle.std.proofs.Common.{◌<◌, sym, ◌∙◌, rules}
+use Rattle.std.proofs.Common.{sym, ◌∙◌, rules}
 use Rattle.book.specs.Cases.{and_true}
 use Rattle.room.specs.Layout.{store}
 use Rattle.ladders.specs.Sized.{server_in}
@@ -12,7 +12,7 @@ pub channel_full-requires : goal.channel_full-requires
 channel_full-requires c =
     -- past the first rung the server is there
     let x = server_in (store c.args.room.now) c.requires.1 c.args.h c.args.p
-        (sym c.server_there.ensures ∙ (and_true c.server_there.result _ (sym c.both.ensures ∙ c.if-not-both.false)).0) in
+    (sym c.server_there.ensures ∙ (and_true c.server_there.result _ (sym c.both.ensures ∙ c.if-not-both.false)).0) in
     search rules
 
 pub returns-then-not-channel_full : goal.returns-then-not-channel_full
@@ -22,7 +22,7 @@ pub is_quiet-requires : goal.is_quiet-requires
 is_quiet-requires c =
     -- past the first rung the server is there
     let x = server_in (store c.args.room.now) c.requires.1 c.args.h c.args.p
-        (sym c.server_there.ensures ∙ (and_true c.server_there.result _ (sym c.both.ensures ∙ c.if-not-both.false)).0) in
+    (sym c.server_there.ensures ∙ (and_true c.server_there.result _ (sym c.both.ensures ∙ c.if-not-both.false)).0) in
     let s = c in (s.requires.0, x.0, x.1, s.requires.2, s.requires.3 s.args.p x.1)
 
 pub returns : goal.returns

@@ -4,13 +4,13 @@ use Rattle.replication.proofs.install.Goals as goal
 
 pub send_to_all-requires : goal.send_to_all-requires
 send_to_all-requires c = let s = c.requires in (
-      c.mark_installed.ensures.0,
-      s.1,
-      s.2,
-      rw
-          (c.mark_installed.ensures.1, c.install.ensures.1)
-          (record { channels = λ g l. let C = s.5.channels g l in record { first = C.first; waiting = C.waiting } }),
-    )
+  c.mark_installed.ensures.0,
+  s.1,
+  s.2,
+  rw
+      (c.mark_installed.ensures.1, c.install.ensures.1)
+      (record { channels = λ g l. let C = s.5.channels g l in record { first = C.first; waiting = C.waiting } }),
+)
 
 pub returns-then-not-o : goal.returns-then-not-o
 returns-then-not-o c = let a = c.args in

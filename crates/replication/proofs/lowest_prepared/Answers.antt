@@ -1,4 +1,4 @@
-use Rattle.std.proofs.Common.{◌-◌, ◌≡◌, ◌∙◌, arith, rules}
+use Rattle.std.proofs.Common.{◌≡◌, ◌∙◌, arith, rules}
 use Rattle.book.specs.Sizes.{places_max}
 use Rattle.times.specs.Lowest.{lowest_none, lowest_join}
 use Rattle.replication.proofs.lowest_prepared.Goals as goal

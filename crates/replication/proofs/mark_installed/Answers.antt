@@ -1,4 +1,4 @@
-use Rattle.std.proofs.Common.{◌-◌, ◌≡◌, sym, arith, rules}
+use Rattle.std.proofs.Common.{◌≡◌, sym, arith, rules}
 use Rattle.book.specs.Sizes.{places_max}
 use Rattle.book.specs.Cells.{State, installed}
 use Rattle.room.specs.Layout.{store}

@@ -1,4 +1,4 @@
-use Rattle.std.proofs.Common.{◌-◌, ◌≡◌, ◌∙◌, arith, rules}
+use Rattle.std.proofs.Common.{◌≡◌, ◌∙◌, arith, rules}
 use Rattle.book.specs.Sizes.{halls_max}
 use Rattle.room.specs.Layout.{store}
 use Rattle.replication.specs.Sending.{sent_none, sent_next, sent_all, channel_ahead}

@@ -1,4 +1,4 @@
-use Rattle.std.proofs.Common.{◌-◌, ◌≡◌, refl, arith, rules}
+use Rattle.std.proofs.Common.{◌≡◌, refl, arith, rules}
 use Rattle.book.specs.Sizes.{halls_max}
 use Rattle.book.specs.Sets.{set_of}
 use Rattle.room.specs.Loops.{set_of_next}

@@ -1,6 +1,4 @@
-use Rattle.std.proofs.Common.{ℕ, Bool, List, refl, sym, ◌∙◌, arith, rules}
-use Rattle.book.specs.Servers.{holds}
-use Rattle.room.specs.Layout.{store}
+use Rattle.std.proofs.Common.{refl, sym, ◌∙◌, arith, rules}
 use Rattle.servers.specs.Turns.{first_none, first_here, first_on}
 use Rattle.servers.proofs.writing_hall.Invariants.{held}
 use Rattle.servers.proofs.writing_hall.Goals as goal

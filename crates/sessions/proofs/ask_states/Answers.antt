@@ -1,4 +1,4 @@
-use Rattle.std.proofs.Common.{◌-◌, ◌≡◌, refl, sym, ◌∙◌, arith, rules}
+use Rattle.std.proofs.Common.{◌≡◌, refl, sym, ◌∙◌, arith, rules}
 use Rattle.book.specs.Sizes.{partitions_max}
 use Rattle.book.specs.Folds.{count}
 use Rattle.room.specs.Layout.{store}

@@ -1,4 +1,4 @@
-use Rattle.std.proofs.Common.{◌-◌, ◌≡◌, refl, sym, ◌∙◌, arith, rules}
+use Rattle.std.proofs.Common.{◌≡◌, refl, sym, ◌∙◌, arith, rules}
 use Rattle.book.specs.Sizes.{keys}
 use Rattle.room.specs.Layout.{store}
 use Rattle.sessions.specs.Starting.{cleaned_none, cleaned_next, cleaned_done}

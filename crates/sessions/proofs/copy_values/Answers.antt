@@ -1,4 +1,4 @@
-use Rattle.std.proofs.Common.{◌-◌, ◌≡◌, refl, sym, ◌∙◌, arith, rules}
+use Rattle.std.proofs.Common.{◌≡◌, refl, sym, ◌∙◌, arith, rules}
 use Rattle.book.specs.Sizes.{keys}
 use Rattle.room.specs.Layout.{store}
 use Rattle.sessions.specs.Asking.{copied_none, copied_next, copied_done}

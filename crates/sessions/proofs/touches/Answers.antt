@@ -1,4 +1,4 @@
-use Rattle.std.proofs.Common.{◌-◌, false, ◌≡◌, refl, sym, ◌∙◌, arith, rules}
+use Rattle.std.proofs.Common.{◌≡◌, refl, sym, ◌∙◌, arith, rules}
 use Rattle.book.specs.Sizes.{keys}
 use Rattle.book.specs.Folds.{any, any_i}
 use Rattle.room.specs.Loops.{any_next}

@@ -1,4 +1,4 @@
-use Rattle.std.proofs.Common.{◌-◌, ◌≡◌, arith, rules}
+use Rattle.std.proofs.Common.{◌≡◌, arith, rules}
 use Rattle.book.specs.Sizes.{halls_max, partitions_max}
 use Rattle.book.specs.Folds.{sum_most}
 use Rattle.room.specs.Loops.{sum_next}

@@ -1,4 +1,4 @@
-use Rattle.std.proofs.Common.{◌-◌, arith, length-set, ext_get_or, rules}
+use Rattle.std.proofs.Common.{arith, length-set, ext_get_or, rules}
 use Rattle.setup.specs.Copies.{copied_next}
 use Rattle.setup.proofs.copy.Goals as goal
 

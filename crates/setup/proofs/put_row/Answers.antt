@@ -1,4 +1,4 @@
-use Rattle.std.proofs.Common.{◌-◌, ◌≡◌, ◌∙◌, arith, rules}
+use Rattle.std.proofs.Common.{◌≡◌, ◌∙◌, arith, rules}
 use Rattle.room.specs.Layout.{store}
 use Rattle.setup.specs.Rows.{row_none, row_next, row_done, place_le}
 use Rattle.setup.proofs.put_row.Goals as goal

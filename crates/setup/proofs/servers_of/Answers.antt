@@ -1,4 +1,4 @@
-use Rattle.std.proofs.Common.{◌-◌, ◌≡◌, arith, rules}
+use Rattle.std.proofs.Common.{◌≡◌, arith, rules}
 use Rattle.book.specs.Sizes.{partitions_max}
 use Rattle.book.specs.Servers.{holds}
 use Rattle.room.specs.Layout.{store}

@@ -1,10 +1,9 @@
-use Rattle.std.proofs.Common.{◌-◌, ◌≡◌, ap, ◌∙◌, arith, rules}
+use Rattle.std.proofs.Common.{◌≡◌, ap, ◌∙◌, arith, rules}
 use Rattle.book.specs.Sizes.{halls_max}
 use Rattle.book.specs.Sets.{member}
 use Rattle.times.specs.declared.Lowest.{Lowest}
 use Rattle.times.specs.Lowest.{lowest_none, lowest_join}
 use Rattle.room.specs.Stretch.{entry_of}
-use Rattle.vectors.specs.Vectors.{time}
 use Rattle.vectors.proofs.lowest.Goals as goal
 
 pub loop-g-init : goal.loop-g-init

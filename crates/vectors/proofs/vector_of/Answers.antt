@@ -1,4 +1,4 @@
-use Rattle.std.proofs.Common.{◌-◌, ◌≡◌, arith, rules}
+use Rattle.std.proofs.Common.{◌≡◌, arith, rules}
 use Rattle.book.specs.Sizes.{halls_max}
 use Rattle.room.specs.Layout.{store}
 use Rattle.vectors.specs.Vectors.{entries_none, entries_next}

@@ -1,4 +1,4 @@
-use Rattle.std.proofs.Common.{◌-◌, ◌≡◌, refl, arith, rules}
+use Rattle.std.proofs.Common.{◌≡◌, refl, arith, rules}
 use Rattle.book.specs.Sizes.{places_max}
 use Rattle.book.specs.Views.{merge_all}
 use Rattle.room.specs.Loops.{merge_all_next}

@@ -1,4 +1,4 @@
-use Rattle.std.proofs.Common.{◌-◌, true, ◌≡◌, refl, sym, arith, rules}
+use Rattle.std.proofs.Common.{true, ◌≡◌, refl, sym, arith, rules}
 use Rattle.book.specs.Sizes.{halls_max}
 use Rattle.book.specs.Cells.{Entry}
 use Rattle.room.specs.Bulk.{row3k, begin, puts}
