@@ -9,7 +9,6 @@ use Rattle.book.specs.Cells.{Store, Halls, Partitions, Sessions, Transactions, R
 use Rattle.book.specs.Cases.{and_true, passed}
 use Rattle.book.specs.Folds.{any, all_at, any_false}
 use Rattle.book.specs.Servers.{holds, partition_of, place_of}
-use Rattle.book.specs.Views.{decided}
 use Rattle.book.specs.SessionSteps.{has_writes}
 use Rattle.book.specs.ReplicationSteps.{sends_to}
 use Rattle.book.specs.Refusals.{unused, all_prepared, tick_refusal, start_refusal, read_refusal, write_refusal, end_refusal, prepare_refusal, decide_refusal, commit_refusal, install_refusal, deliver_refusal, server_refusal, share_refusal, move_refusal}

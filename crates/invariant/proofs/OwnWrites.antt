@@ -1,5 +1,5 @@
 -- What a session wrote in earlier transactions it still sees: at its snapshot, or in its cache.
-use Rattle.std.specs.Prelude.{ℕ, ◌^◌, ◌≤◌, ◌<◌, true, ◌&&◌, ◌≡◌, ◌⊎◌, [], ◌∷◌, eqb, leb}
+use Rattle.std.specs.Prelude.{ℕ, ◌≤◌, ◌<◌, true, ◌&&◌, ◌≡◌, ◌⊎◌, [], ◌∷◌, eqb, leb}
 use Rattle.std.proofs.lemmas.Bool.{false≢true}
 use Rattle.std.proofs.Common.{sym, ◌∙◌, inl, inr, ⊎_elim, le_trans, le_refl, mod-lt, arith, eqb-true, eq-eqb, ne_eqb, leb-true}
 use Rattle.book.specs.Sizes.{partitions_max, keys}
@@ -20,7 +20,7 @@ use Rattle.invariant.proofs.Install.{has_asked}
 use Rattle.invariant.proofs.Transactions.{touches_i}
 use Rattle.facts.specs.Setup.{some_bit}
 use Rattle.invariant.proofs.Reach.{reached_inv}
-use Rattle.invariant.specs.OwnWrites.{CachedFrom, Sets, Some, Busy, One, Ahead, Last, Apart, FromCache, Kept, Own}
+use Rattle.invariant.specs.OwnWrites.{Sets, Some, Busy, One, Ahead, Last, Apart, FromCache, Kept, Own}
 
 module _ (σ : Store) (I : Inv σ) (O : Own σ) where
   -- End, with writes: the session has none that is undecided

@@ -1,21 +1,8 @@
 -- What a session wrote in earlier transactions it still sees: at its snapshot, or in its cache.
-use Rattle.std.specs.Prelude.{ℕ, ◌^◌, ◌≤◌, ◌<◌, true, ◌&&◌, ◌≡◌, ◌⊎◌, [], ◌∷◌, eqb, leb}
-use Rattle.std.proofs.lemmas.Bool.{false≢true}
-use Rattle.std.proofs.Common.{sym, ◌∙◌, inl, inr, ⊎_elim, le_trans, le_refl, mod-lt, arith, eqb-true, eq-eqb, ne_eqb, leb-true}
+use Rattle.std.specs.Prelude.{ℕ, ◌^◌, ◌≤◌, ◌<◌, true, ◌≡◌, ◌⊎◌}
 use Rattle.book.specs.Sizes.{partitions_max, keys}
-use Rattle.book.specs.Cells.{Store, same, ◌⟨◌≔◌⟩, Transactions, Status, idle, running, committing, Snapshot, LastCommit, WriteSet, CacheValue, CacheTime, By, CommitTime, KeySet, Value, State, asked, prepared, waiting, installed, Proposed}
-use Rattle.book.specs.Cases.{by_test, by_eq, by_cell, and_true, unwritten, eqb_refl, at_same}
-use Rattle.book.specs.Folds.{largest_ge}
-use Rattle.book.specs.Sets.{member, include_lt}
-use Rattle.book.specs.Servers.{partition_of, place_of}
-use Rattle.book.specs.SessionSteps.{snapshot, touches}
-use Rattle.book.specs.CommitSteps.{decision, decide}
-use Rattle.book.specs.ReplicationSteps.{installs}
-use Rattle.book.specs.Reached.{Reached}
-use Rattle.facts.specs.Facts.{Ends, Decides}
-use Rattle.facts.specs.Step.{Step, Writing, Taken, over, by_reached}
-use Rattle.invariant.specs.Inv.{Inv}
-use Rattle.facts.specs.Setup.{some_bit}
+use Rattle.book.specs.Cells.{Store, Transactions, Status, committing, Snapshot, LastCommit, WriteSet, CacheValue, CacheTime, By, CommitTime, KeySet, Value, State, prepared, Proposed}
+use Rattle.book.specs.Sets.{member}
 
 -- what session s has cached of key k is what its transaction t wrote
 abbrev pub CachedFrom : Store → ℕ → ℕ → ℕ → Type 0
