@@ -9,7 +9,7 @@ use Rattle.book.specs.Sets.{member, set_of, member_set_of, size}
 use Rattle.book.specs.Servers.{writer}
 use Rattle.book.specs.ReplicationSteps.{installs}
 use Rattle.room.specs.Layout.{store}
-use Rattle.room.specs.Words.{store_beyond}
+use Rattle.room.proofs.Words.{store_beyond}
 
 -- how many of the first n pass does not go by what the others do
 count_same : (n : ℕ) (f g : ℕ → Bool) → ((t : ℕ) → t < n → f t ≡ g t) → count n f ≡ count n g

@@ -11,7 +11,7 @@ use Rattle.book.specs.Steps.{refusal, after, answer, answer_refusal}
 use Rattle.book.specs.Reached.{Reached, Later}
 use Rattle.bounds.proofs.WellFormedKept.{reached_well_formed}
 use Rattle.room.specs.Layout.{size, store}
-use Rattle.room.specs.Lay.{length_lay}
+use Rattle.room.proofs.Lay.{length_lay}
 use Rattle.setup.specs.SetUp.{SetUp, setup_given, setup_room, setup_store}
 use Rattle.store.specs.Face.{Stepped, sound, step_answer, step_room, step_store, step_length}
 use Rattle.cranktimber.specs.Told.{Told}

@@ -8,8 +8,8 @@ use Rattle.book.specs.Cases.{by_test, and_true}
 use Rattle.progress.specs.Stretches.{is_at, SameStretch}
 use Rattle.progress.proofs.Stretches.{own_stretch}
 use Rattle.room.specs.Layout.{at, Within, store, cell_at, stretch, start}
-use Rattle.room.specs.Words.{valid_within, covers, store_get}
-use Rattle.room.specs.Stretch.{five, own_i, stretch_cells}
+use Rattle.room.proofs.Words.{valid_within, covers, store_get}
+use Rattle.room.proofs.StretchLaws.{five, own_i, stretch_cells}
 use Rattle.store.specs.Face.{Stepped, sound}
 
 -- a cell of a server whose stretch stays

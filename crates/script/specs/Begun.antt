@@ -12,7 +12,8 @@ use Rattle.book.specs.Setup.{first_store, setup_refusal, setup_answer}
 use Rattle.book.specs.WellFormed.{well_formed}
 use Rattle.bounds.proofs.WellFormedKept.{setup_formed}
 use Rattle.room.specs.Layout.{size, store}
-use Rattle.room.specs.Lay.{lay, length_lay}
+use Rattle.room.specs.Lay.{lay}
+use Rattle.room.proofs.Lay.{length_lay}
 use Rattle.setup.specs.SetUp.{SetUp}
 use Rattle.script.specs.Printout.{before, line_of, refused, counted_from, setup_from, setup_refused}
 

@@ -6,7 +6,8 @@ use Rattle.book.specs.Cases.{by_test, and_true}
 use Rattle.book.specs.Reached.{Reached}
 use Rattle.ink.specs.Written.{Written, parts, then}
 use Rattle.room.specs.Layout.{size, store}
-use Rattle.room.specs.Lay.{lay, lay_store}
+use Rattle.room.specs.Lay.{lay}
+use Rattle.room.proofs.Lay.{lay_store}
 use Rattle.script.specs.Printout.{Outcome, only, before, outcome, outcome_same, blank, printed}
 use Rattle.script.specs.Length.{capacity, outcome_fits}
 use Rattle.script.specs.Reaches.{outcome_reached}

@@ -4,7 +4,7 @@ use Rattle.std.proofs.Common.{ap, sym, ◌∙◌, arith}
 use Rattle.book.specs.Sizes.{halls_max, partitions_max, sessions_max, keys}
 use Rattle.book.specs.Cells.{Cell, Store, ◌⟨◌≔◌⟩, each2, HomeHall, HomePartition, Stable, Status, running, Snapshot, WriteSet, ReadSet, CacheTime}
 use Rattle.room.specs.Layout.{store}
-use Rattle.room.specs.Words.{store_beyond}
+use Rattle.room.proofs.Words.{store_beyond}
 use Rattle.room.specs.Bulk.{Row, row2j, up_to, begin, ahead, next, done}
 
 -- session s is there, and its coordinator is a server of the room

@@ -8,8 +8,9 @@ use Rattle.book.specs.Updates.{is, one_cell}
 use Rattle.book.specs.Setup.{partitions_held, numbers_set, first_store}
 use Rattle.room.specs.Bulk.{row1}
 use Rattle.room.specs.Layout.{Within, valid, store}
-use Rattle.room.specs.Words.{within}
-use Rattle.room.specs.Lay.{lay, store_lay}
+use Rattle.room.proofs.Words.{within}
+use Rattle.room.specs.Lay.{lay}
+use Rattle.room.proofs.Lay.{store_lay}
 
 -- a store that has nothing but in the cells of a room
 abbrev Inside : Store → Type 0

@@ -8,7 +8,7 @@ use Rattle.book.specs.Cases.{by_test}
 use Rattle.book.specs.Setup.{numbers_set}
 use Rattle.room.specs.Bulk.{up_to, row1, begin, puts, done}
 use Rattle.room.specs.Layout.{size, at, valid, store}
-use Rattle.room.specs.Words.{valid_within, within_lt}
+use Rattle.room.proofs.Words.{valid_within, within_lt}
 
 -- the first `count` cells of a kind, given every `step`th of the numbers from `start` on, and 0 past their end
 abbrev pub row : ℕ → ℕ → List ℕ → ℕ → ℕ → Store → Store

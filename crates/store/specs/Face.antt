@@ -8,7 +8,8 @@ use Rattle.book.specs.Cases.{by_test, and_true}
 use Rattle.book.specs.Steps.{rule_of, refusal, after, answer, refused_unchanged}
 use Rattle.book.specs.WellFormed.{well_formed}
 use Rattle.room.specs.Layout.{size, store}
-use Rattle.room.specs.Lay.{lay, length_lay, lay_store, onto}
+use Rattle.room.specs.Lay.{lay}
+use Rattle.room.proofs.Lay.{length_lay, lay_store, onto}
 
 -- 1: "room of wrong length; or, except at setup, a room that isn't well formed"
 abbrev pub sound : List ℕ → Bool

@@ -6,7 +6,7 @@ use borrow.Author.Tests.{eq-eqb, le-leb, le-ltb}
 use Rattle.book.specs.Folds.{count}
 use Rattle.book.specs.Cases.{by_test, by_eq}
 use Rattle.room.specs.Layout.{size}
-use Rattle.room.specs.Lay.{length_lay}
+use Rattle.room.proofs.Lay.{length_lay}
 use Rattle.room.specs.Loops.{count_le}
 use Rattle.script.specs.Printout.{printed, blank}
 use Rattle.script.specs.Length.{capacity, outcome_fits}

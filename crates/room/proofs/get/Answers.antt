@@ -1,5 +1,5 @@
 use Rattle.book.specs.Cells.{cell}
-use Rattle.room.specs.Words.{store_get}
+use Rattle.room.proofs.Words.{store_get}
 use Rattle.room.proofs.get.Goals as goal
 
 pub returns : goal.returns

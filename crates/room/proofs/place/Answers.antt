@@ -1,7 +1,7 @@
 use Rattle.std.proofs.Common.{ℕ, ◌<◌, arith, rules}
 use Rattle.book.specs.Cells.{cell}
 use Rattle.room.specs.Layout.{size, at, Within}
-use Rattle.room.specs.Words.{within_lt}
+use Rattle.room.proofs.Words.{within_lt}
 use Rattle.room.proofs.place.Goals as goal
 
 -- the word is in the room, so no sum or product on the way passes a usize

@@ -1,6 +1,6 @@
 use Rattle.std.proofs.Common.{rules}
 use Rattle.book.specs.Cells.{cell}
-use Rattle.room.specs.Words.{store_set}
+use Rattle.room.proofs.Words.{store_set}
 use Rattle.room.proofs.put.Goals as goal
 
 pub returns : goal.returns

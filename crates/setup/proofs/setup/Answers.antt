@@ -1,5 +1,6 @@
 use Rattle.std.proofs.Common.{sym, ap, ◌∙◌, rules}
-use Rattle.room.specs.Lay.{lay, lay_store}
+use Rattle.room.specs.Lay.{lay}
+use Rattle.room.proofs.Lay.{lay_store}
 use Rattle.setup.specs.SetUp.{other_size, odd_homes, bad_numbers, good_numbers}
 use Rattle.setup.specs.Rows.{zeros_store}
 use Rattle.setup.proofs.setup.Goals as goal

@@ -1,6 +1,7 @@
 use Rattle.std.proofs.Common.{◌+◌, ◌-◌, arith, rules}
 use Rattle.room.specs.Layout.{stretch}
-use Rattle.room.specs.Stretch.{held_all, with_entries, keeps_held, keeps_entries, keeps_then, lift}
+use Rattle.room.specs.Stretch.{held_all, with_entries}
+use Rattle.room.proofs.StretchLaws.{keeps_held, keeps_entries, keeps_then, lift}
 use Rattle.room.proofs.stretch.deliver.Goals as goal
 
 pub returns : goal.returns

@@ -1,7 +1,7 @@
 use Rattle.std.proofs.Common.{◌+◌, ◌-◌, arith, rules}
 use Rattle.book.specs.Cells.{Held}
 use Rattle.room.specs.Layout.{servers_at, base}
-use Rattle.room.specs.Stretch.{local_set}
+use Rattle.room.proofs.StretchLaws.{local_set}
 use Rattle.room.proofs.stretch.hold_if.Goals as goal
 
 pub returns-then-test : goal.returns-then-test

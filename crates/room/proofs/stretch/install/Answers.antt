@@ -1,7 +1,8 @@
 use Rattle.std.proofs.Common.{◌+◌, ◌-◌, arith, rules}
 use Rattle.book.specs.Cells.{◌⟨◌≔◌⟩, Hybrid, Entry}
 use Rattle.room.specs.Layout.{stretch}
-use Rattle.room.specs.Stretch.{held_all, keeps_held, keeps_put, keeps_then, lift}
+use Rattle.room.specs.Stretch.{held_all}
+use Rattle.room.proofs.StretchLaws.{keeps_held, keeps_put, keeps_then, lift}
 use Rattle.room.proofs.stretch.install.Goals as goal
 
 pub returns : goal.returns

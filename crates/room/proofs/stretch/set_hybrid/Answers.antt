@@ -1,7 +1,7 @@
 use Rattle.std.proofs.Common.{◌-◌, arith, rules}
 use Rattle.book.specs.Cells.{Hybrid}
 use Rattle.room.specs.Layout.{servers_at, base}
-use Rattle.room.specs.Stretch.{local_set}
+use Rattle.room.proofs.StretchLaws.{local_set}
 use Rattle.room.proofs.stretch.set_hybrid.Goals as goal
 
 pub returns : goal.returns

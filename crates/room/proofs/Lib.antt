@@ -1,0 +1,4 @@
+pub mod Checked
+pub mod Words
+pub mod Lay
+pub mod StretchLaws
