@@ -14,7 +14,8 @@ use Rattle.rounds.proofs.Quiet.{quiet_install}
 use Rattle.room.specs.Layout.{size, store}
 use Rattle.store.specs.Face.{Stepped, sound, no_word}
 use Rattle.rooms.specs.Refused.{given, one_exactly}
-use Rattle.rooms.specs.Reached.{ReachedRoom, reached_store, reached_sound, reached_given}
+use Rattle.rooms.specs.Reached.{ReachedRoom}
+use Rattle.rooms.proofs.Reached.{reached_store, reached_sound, reached_given}
 
 -- Of a reached store 1 comes for a wrong length alone,
 pub one_by_length : {r : List ℕ} {code a b c : ℕ} {x : Answer} {late : List ℕ} → Reached (store r) → Stepped r code a b c x late
