@@ -3,7 +3,6 @@ use Rattle.std.specs.Prelude.{ℕ, true, ◌≡◌, refl, List, eqb, length}
 use Rattle.std.proofs.Common.{sym, ap, ◌∙◌, arith, eq-eqb}
 use Rattle.book.specs.declared.Answer.{Answer}
 use Rattle.book.specs.declared.Numbers.{Numbers}
-use Rattle.book.specs.Cells.{Store}
 use Rattle.book.specs.Cases.{by_test}
 use Rattle.book.specs.Setup.{setup_refusal, first_store}
 use Rattle.book.specs.Answers.{numbers}

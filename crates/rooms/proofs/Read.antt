@@ -1,14 +1,14 @@
 -- Demand 3, of rooms: the public `step` of a reached room answers a read that the session can't answer, and later steps don't alter it.
-use Rattle.std.specs.Prelude.{ℕ, ◌<◌, ◌≡◌, List, []}
+use Rattle.std.specs.Prelude.{ℕ, ◌<◌, ◌≡◌, List}
 use Rattle.std.proofs.Common.{sym, ap, ◌∙◌}
 use Rattle.book.specs.declared.Answer.{Answer}
 use Rattle.book.specs.declared.Answer.TheVariants.{Read}
 use Rattle.book.specs.declared.View.{View}
 use Rattle.book.specs.Sizes.{keys}
 use Rattle.book.specs.Cells.{Snapshot}
-use Rattle.book.specs.Answers.{view_numbers, numbers}
+use Rattle.book.specs.Answers.{numbers}
 use Rattle.book.specs.Steps.{view_taken}
-use Rattle.book.specs.History.{Decided, ever_view, decided_after, decided_ever}
+use Rattle.book.specs.History.{ever_view, decided_ever}
 use Rattle.invariant.proofs.Reach.{reached_later}
 use Rattle.snapshots.specs.Ever.{Ledger}
 use Rattle.snapshots.proofs.Ever.{ledger_view, ledger_none, ledger_step, ever_decided}

@@ -9,8 +9,6 @@ use Rattle.facts.specs.Calls.{Call, after_of, AllTaken, EachOnce, run, run_appen
 use Rattle.rounds.specs.Round.{is_channel, at_server, with_message, between_halls, lowest_present}
 use Rattle.rounds.proofs.Round.{full_round}
 use Rattle.room.specs.Layout.{store}
-use Rattle.store.specs.Face.{Stepped}
-use Rattle.rooms.specs.Refused.{given}
 use Rattle.rooms.specs.Reached.{ReachedRoom}
 use Rattle.rooms.proofs.Reached.{reached_store, reached_step, reached_given}
 use Rattle.rooms.specs.Round.{Called, NoneAway}

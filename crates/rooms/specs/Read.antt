@@ -1,24 +1,14 @@
 -- Demand 3, of rooms: the public `step` of a reached room answers a read that the session can't answer, and later steps don't alter it.
-use Rattle.std.specs.Prelude.{ℕ, ◌<◌, ◌≡◌, List, []}
-use Rattle.std.proofs.Common.{sym, ap, ◌∙◌}
+use Rattle.std.specs.Prelude.{ℕ, ◌≡◌, List, []}
 use Rattle.book.specs.declared.Answer.{Answer}
 use Rattle.book.specs.declared.Answer.TheVariants.{Read}
 use Rattle.book.specs.declared.View.{View}
-use Rattle.book.specs.Sizes.{keys}
 use Rattle.book.specs.Cells.{Snapshot}
 use Rattle.book.specs.Answers.{view_numbers, numbers}
-use Rattle.book.specs.Steps.{view_taken}
-use Rattle.book.specs.History.{Decided, ever_view, decided_after, decided_ever}
-use Rattle.invariant.proofs.Reach.{reached_later}
-use Rattle.snapshots.specs.Ever.{Ledger}
-use Rattle.snapshots.proofs.Ever.{ledger_view, ledger_none, ledger_step, ever_decided}
-use Rattle.snapshots.specs.SnapshotRead.{Fetches}
-use Rattle.snapshots.proofs.SnapshotRead.{snapshot_read}
-use Rattle.snapshots.proofs.LaterRead.{later_never_alters, later_read}
+use Rattle.book.specs.History.{Decided, ever_view, decided_after}
 use Rattle.room.specs.Layout.{store}
-use Rattle.store.specs.Face.{Stepped}
 use Rattle.rooms.specs.Refused.{given}
-use Rattle.rooms.specs.Reached.{ReachedRoom, LaterRoom}
+use Rattle.rooms.specs.Reached.{ReachedRoom}
 
 -- all that was decided so far in a room, the last first: a decide that is taken adds its transaction as it was in the room before
 unfoldable pub decided_in : {r : List ℕ} → ReachedRoom r → List Decided

@@ -1,17 +1,9 @@
 -- "A full round", of rooms.
-use Rattle.std.specs.Prelude.{ℕ, ◌≤◌, ◌<◌, true, ◌≡◌, refl, List, [], ◌∷◌, ◌++◌}
-use Rattle.std.proofs.Common.{◌∙◌}
+use Rattle.std.specs.Prelude.{ℕ, ◌≡◌, List, [], ◌∷◌}
 use Rattle.book.specs.declared.Answer.{Answer}
-use Rattle.book.specs.Sizes.{partitions_max, places_max}
-use Rattle.book.specs.Cells.{Store, Stable, State, prepared, Waiting}
-use Rattle.book.specs.Servers.{holds}
-use Rattle.facts.specs.Calls.{Call, after_of, AllTaken, EachOnce, run, run_append}
-use Rattle.rounds.specs.Round.{is_channel, at_server, with_message, between_halls, lowest_present}
-use Rattle.rounds.proofs.Round.{full_round}
-use Rattle.room.specs.Layout.{store}
+use Rattle.facts.specs.Calls.{Call}
 use Rattle.store.specs.Face.{Stepped}
 use Rattle.rooms.specs.Refused.{given}
-use Rattle.rooms.specs.Reached.{ReachedRoom}
 
 -- `step` called with one four numbers after another, what it answered each time, and the room that is left
 pub data Called : List ℕ → List Call → List Answer → List ℕ → Type 0 where
