@@ -57,6 +57,12 @@ turned_away_lem σ code a b c n e f =
     let m : refusal σ code a b c ≡ 0 → ⊥ = λ z. f (e ∙ z) in
     (rw (e, ne_eqb (refusal σ code a b c) 0 m), sym (refused_unchanged σ code a b c m).0)
 
+pub away_answer : (σ : Store) (code a b c n : ℕ) → n ≡ refusal σ code a b c → (n ≡ 0 → ⊥) → Refused n ≡ answer σ code a b c
+away_answer σ code a b c n e f = (turned_away_lem σ code a b c n e f).0
+
+pub away_store : (σ : Store) (code a b c n : ℕ) → n ≡ refusal σ code a b c → (n ≡ 0 → ⊥) → σ ≡ after σ code a b c
+away_store σ code a b c n e f = (turned_away_lem σ code a b c n e f).1
+
 pub taken : (σ : Store) (code a b c : ℕ) → refusal σ code a b c ≡ 0
     → ((rule_of σ code a b c).answer ≡ answer σ code a b c) × ((rule_of σ code a b c).after ≡ after σ code a b c)
 unfolding answer after

@@ -34,6 +34,7 @@ fn act(room: &mut [u64], code: u64, a: u64, b: u64, c: u64) -> Answer
 }
 
 // A step on a room that is well formed, as every room is that setup made and steps changed.
+#[tactic(auto, using(crate::specs::Face::away_answer, crate::specs::Face::away_store))]
 pub fn step_inner(room: &mut [u64], code: u64, a: u64, b: u64, c: u64) -> Answer
     requires { (length room.old ≡ size) × (well_formed (store room.old) ≡ true) }
     ensures { Inner room.old code a b c result room.new }
