@@ -1,5 +1,5 @@
 -- Demand 1, of any lent room: what is turned away leaves every word and answers zeros.
-use Rattle.std.specs.Prelude.{ℕ, false, cond, ◌≡◌, List, ◌⊎◌, ◌↔◌, eqb, length}
+use Rattle.std.specs.Prelude.{ℕ, false, cond, ◌≡◌, List, ◌↔◌, eqb, length}
 use Rattle.std.proofs.Common.{sym, ap, ◌∙◌, ⊎_elim, arith, ne_eqb}
 use Rattle.book.specs.declared.Answer.{Answer}
 use Rattle.book.specs.declared.Answer.TheVariants.{Refused}

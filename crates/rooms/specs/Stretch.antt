@@ -1,5 +1,5 @@
 -- "Each server writes only its own stretch of the lent room", of rooms: a step leaves every word of every other server's.
-use Rattle.std.specs.Prelude.{ℕ, ◌+◌, ◌≤◌, ◌<◌, true, false, ◌≡◌, List, eqb, leb, get_or}
+use Rattle.std.specs.Prelude.{ℕ, ◌+◌, ◌≤◌, ◌<◌, false, ◌≡◌, List, eqb, leb, get_or}
 use Rattle.std.proofs.Common.{sym, ap, ◌∙◌, arith, eqb-true, leb-true}
 use Rattle.book.specs.declared.Answer.{Answer}
 use Rattle.book.specs.Sizes.{halls_max, partitions_max}
@@ -7,7 +7,7 @@ use Rattle.book.specs.Cells.{cell, Store}
 use Rattle.book.specs.Cases.{by_test, and_true}
 use Rattle.progress.specs.Stretches.{is_at, SameStretch}
 use Rattle.progress.proofs.Stretches.{own_stretch}
-use Rattle.room.specs.Layout.{at, Within, store, cell_at, stretch, start}
+use Rattle.room.specs.Layout.{Within, store, cell_at, stretch, start}
 use Rattle.room.proofs.Words.{valid_within, covers, store_get}
 use Rattle.room.proofs.StretchLaws.{five, own_i, stretch_cells}
 use Rattle.store.specs.Face.{Stepped, sound}

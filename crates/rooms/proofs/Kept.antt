@@ -1,5 +1,5 @@
 -- What every reached room keeps to.
-use Rattle.std.specs.Prelude.{ℕ, ◌≤◌, true, false, ◌≡◌, List, ◌↔◌, eqb, length}
+use Rattle.std.specs.Prelude.{ℕ, ◌≤◌, true, ◌≡◌, List, ◌↔◌, length}
 use Rattle.std.proofs.Common.{true≢false, sym, ◌∙◌, eq-eqb, ne_eqb}
 use Rattle.book.specs.declared.Answer.{Answer}
 use Rattle.book.specs.Sizes.{halls_max, partitions_max, reading_max, time_max}
@@ -12,9 +12,10 @@ use Rattle.bounds.proofs.WellFormedKept.{reached_well_formed}
 use Rattle.bounds.proofs.Bound.{bound}
 use Rattle.rounds.proofs.Quiet.{quiet_install}
 use Rattle.room.specs.Layout.{size, store}
-use Rattle.store.specs.Face.{Stepped, sound, no_word}
+use Rattle.store.specs.Face.{Stepped, no_word}
 use Rattle.rooms.specs.Refused.{given, one_exactly}
-use Rattle.rooms.specs.Reached.{ReachedRoom, reached_store, reached_sound, reached_given}
+use Rattle.rooms.specs.Reached.{ReachedRoom}
+use Rattle.rooms.proofs.Reached.{reached_store, reached_sound, reached_given}
 
 -- Of a reached store 1 comes for a wrong length alone,
 pub one_by_length : {r : List ℕ} {code a b c : ℕ} {x : Answer} {late : List ℕ} → Reached (store r) → Stepped r code a b c x late

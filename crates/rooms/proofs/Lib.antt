@@ -1,0 +1,4 @@
+pub mod Reached
+pub mod Kept
+pub mod Read
+pub mod Round
