@@ -221,10 +221,19 @@ fn no_printout() -> [u8; CAPACITY]
     [0; CAPACITY]
 }
 
+// Reads the file `list`; where it is not there, it is empty.
+fn read_list(rt: &impl Files, list: &mut [u8]) -> io::Result<usize>
+    ensures { (length list.new ≡ length list.old) × IfOk result (λ n. n ≤ length list.old) }
+{
+    let Some(mut file) = fs::open(rt, "list").ok() else {
+        return Ok(0);
+    };
+    read_full(&mut file, list)
+}
+
 fn main(rt: HostRuntime) -> io::Result<()> {
-    let mut file = fs::open(&rt, "list")?;
     let mut list = no_list();
-    let n = read_full(&mut file, &mut list)?;
+    let n = read_list(&rt, &mut list)?;
     let mut bytes = no_bytes();
     let mut cuts = no_cuts();
     let mut room = no_room();
