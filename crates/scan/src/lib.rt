@@ -51,6 +51,7 @@ fn is_digit(b: u8) -> bool
 }
 
 // A space or a line feed.
+#[tactic(auto, unfolding(crate::specs::Number::closing))]
 fn closes(b: u8) -> bool
     ensures { result ≡ closing b }
 {

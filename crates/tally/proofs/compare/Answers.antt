@@ -14,7 +14,7 @@ loop-i-preserved c =
     rw (← c.loop-i.invariant, at_both c.args.a.now c.args.b.now c.loop-i.i (omega arith) (omega arith), eq-eqb _ _ c.if-a-i.false)
 
 pub returns-then-i-b-2 : goal.returns-then-i-b-2
-returns-then-i-b-2 c = rw (← c.loop-i.invariant) (sym (at_second _ _ _ (omega arith) c.if-i-b-2.true))
+returns-then-i-b-2 c = rw (← c.loop-i.invariant) (sym (at_second c.args.a.now c.args.b.now c.loop-i.i (omega arith) (omega arith)))
 
 pub returns : goal.returns
-returns c = rw (← c.loop-i.invariant) (sym (past_both _ _ _ (omega arith) c.if-i-b-2.false))
+returns c = rw (← c.loop-i.invariant) (sym (past_both c.args.a.now c.args.b.now c.loop-i.i (omega arith) (omega arith)))
