@@ -3,7 +3,7 @@
 
 ghost use Rattle.std.specs.Prelude.{◌≡◌, ◌<◌, ◌≤◌, length};
 ghost use Rattle.book.specs.Sizes.{halls_max, partitions_max, time_max};
-ghost use Rattle.book.specs.CommitSteps.{tick as tickedStore};
+ghost use Rattle.book.specs.CommitSteps.{tick as ticked_store};
 ghost use Rattle.room.specs.Layout.{size, store};
 ghost use Rattle.clocks.specs.Clocks.{clock_of, with_clock, proposed_clock};
 
@@ -46,7 +46,7 @@ pub fn proposed(mut c: Clock, last: Timestamp, snapshot: Timestamp) -> Clock
 // 1. "Stores the reading."
 pub fn tick(room: &mut [u64], h: usize, p: usize, x: Reading) -> Answer
     requires { (length room.old ≡ size) × (h < halls_max) × (p < partitions_max) }
-    ensures { (length room.new ≡ size) × (result ≡ Answer.Answered 0 0) × (store room.new ≡ tickedStore (store room.old) h p x.0) }
+    ensures { (length room.new ≡ size) × (result ≡ Answer.Answered 0 0) × (store room.new ≡ ticked_store (store room.old) h p x.0) }
 {
     let c = take(room, h, p);
     put_back(room, h, p, after_tick(c, x));

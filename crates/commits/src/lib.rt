@@ -2,10 +2,10 @@
 #![tactic(auto)]
 
 ghost use Rattle.std.specs.Prelude.{◌≡◌, ◌<◌, ◌^◌, length};
-ghost use Rattle.book.specs.Sizes.{halls_max, partitions_max, sessions_max, keys as keysMax, places_max};
+ghost use Rattle.book.specs.Sizes.{halls_max, partitions_max, sessions_max, keys as keys_max, places_max};
 ghost use Rattle.book.specs.Cells.{By, KeySet};
 ghost use Rattle.book.specs.Servers.{place_of};
-ghost use Rattle.book.specs.CommitSteps.{prepare as preparedStore, proposal, decide as decidedStore, decision, commit as committedStore, commitment};
+ghost use Rattle.book.specs.CommitSteps.{prepare as prepared_store, proposal, decide as decided_store, decision, commit as committed_store, commitment};
 ghost use Rattle.room.specs.Layout.{size, store};
 ghost use Rattle.servers.specs.Numbers.{Numbered};
 ghost use Rattle.commits.specs.Proposals.{proposed_for, later_proposal};
@@ -46,7 +46,7 @@ fn proposed_at(room: &[u64], t: usize, h: usize, p: usize) -> Clock
 // 6. "At the writing server, proposed time = .. The hybrid clock becomes it. Answers it."
 pub fn prepare(room: &mut [u64], n: TxNumber, p: usize) -> Answer
     requires { (length room.old ≡ size) × Numbered n.0 × (p < partitions_max) × Coordinated (store room.old) (place_of n.0) × Timely (store room.old) (place_of n.0) p }
-    ensures { (length room.new ≡ size) × (result ≡ Answer.Answered (proposal (store room.old) (place_of n.0) p) 0) × (store room.new ≡ preparedStore (store room.old) (place_of n.0) p) }
+    ensures { (length room.new ≡ size) × (result ≡ Answer.Answered (proposal (store room.old) (place_of n.0) p) 0) × (store room.new ≡ prepared_store (store room.old) (place_of n.0) p) }
 {
     let t = place_of(n);
     let h = writing_hall(room, t, p);
@@ -83,7 +83,7 @@ fn largest_proposal(room: &[u64], t: usize) -> Timestamp
 
 // One key's move to the cache, if it is among the keys.
 fn cache_key(room: &mut [u64], t: usize, s: usize, time: Timestamp, keys: u64, k: usize)
-    requires { (length room.old ≡ size) × (t < places_max) × (s < sessions_max) × (k < keysMax) }
+    requires { (length room.old ≡ size) × (t < places_max) × (s < sessions_max) × (k < keys_max) }
     ensures { (length room.new ≡ size) × (store room.new ≡ key_cached (store room.old) t s time.0 keys k) }
 {
     let moves = masks::has(keys, k as u64);
@@ -94,7 +94,7 @@ fn cache_key(room: &mut [u64], t: usize, s: usize, time: Timestamp, keys: u64, k
 
 // "its writes move to the cache with it, over older entries"
 fn move_to_cache(room: &mut [u64], t: usize, s: usize, time: Timestamp)
-    requires { (length room.old ≡ size) × (t < places_max) × (s < sessions_max) × (store room.old (KeySet t) < 2 ^ keysMax) }
+    requires { (length room.old ≡ size) × (t < places_max) × (s < sessions_max) × (store room.old (KeySet t) < 2 ^ keys_max) }
     ensures { (length room.new ≡ size) × (store room.new ≡ cached (store room.old) t s time.0) }
 {
     let keys = room::get(room, KEY_SET, t, 0, 0, 0);
@@ -106,7 +106,7 @@ fn move_to_cache(room: &mut [u64], t: usize, s: usize, time: Timestamp)
 // 7. "Commit time = largest proposed time, answered. The session is idle, its last commit time is this"
 pub fn decide(room: &mut [u64], n: TxNumber) -> Answer
     requires { (length room.old ≡ size) × Numbered n.0 × Writing (store room.old) (place_of n.0) }
-    ensures { (length room.new ≡ size) × (result ≡ Answer.Answered (decision (store room.old) (place_of n.0)) 0) × (store room.new ≡ decidedStore (store room.old) (place_of n.0)) }
+    ensures { (length room.new ≡ size) × (result ≡ Answer.Answered (decision (store room.old) (place_of n.0)) 0) × (store room.new ≡ decided_store (store room.old) (place_of n.0)) }
 {
     let t = place_of(n);
     let s = session_of(room, t);
@@ -122,7 +122,7 @@ pub fn decide(room: &mut [u64], n: TxNumber) -> Answer
 // 8. "Hybrid clock becomes the largest of itself, the commit time and the reading, and is answered; the transaction is waiting."
 pub fn commit(room: &mut [u64], n: TxNumber, p: usize) -> Answer
     requires { (length room.old ≡ size) × Numbered n.0 × (p < partitions_max) × Coordinated (store room.old) (place_of n.0) }
-    ensures { (length room.new ≡ size) × (result ≡ Answer.Answered (commitment (store room.old) (place_of n.0) p) 0) × (store room.new ≡ committedStore (store room.old) (place_of n.0) p) }
+    ensures { (length room.new ≡ size) × (result ≡ Answer.Answered (commitment (store room.old) (place_of n.0) p) 0) × (store room.new ≡ committed_store (store room.old) (place_of n.0) p) }
 {
     let t = place_of(n);
     let h = writing_hall(room, t, p);

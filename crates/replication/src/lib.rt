@@ -6,7 +6,7 @@ ghost use Rattle.book.specs.Sizes.{halls_max, partitions_max, places_max, slots}
 ghost use Rattle.book.specs.Cells.{State, Proposed, First, Waiting};
 ghost use Rattle.book.specs.Sets.{include, set_of};
 ghost use Rattle.book.specs.Servers.{writer};
-ghost use Rattle.book.specs.ReplicationSteps.{prepared_at, version_clock, number_installed, is_quiet, other_holder, install as installedStore, clock_carried, number_carried, deliver as deliveredStore};
+ghost use Rattle.book.specs.ReplicationSteps.{prepared_at, version_clock, number_installed, is_quiet, other_holder, install as installed_store, clock_carried, number_carried, deliver as delivered_store};
 ghost use Rattle.room.specs.Layout.{size, store};
 ghost use Rattle.times.specs.Lowest.{joined};
 ghost use Rattle.replication.specs.Safe.{AllCoordinated, Channel, AllTimely, Outgoing};
@@ -208,7 +208,7 @@ fn send_to_all(room: &mut [u64], h: usize, p: usize, m: Message)
 // 9. "Every waiting transaction with commit time at or below the version clock is installed. .. Answers the version clock and the number installed."
 pub fn install(room: &mut [u64], h: usize, p: usize) -> Answer
     requires { (length room.old ≡ size) × (h < halls_max) × (p < partitions_max) × AllCoordinated (store room.old) × AllTimely (store room.old) p × Outgoing (store room.old) h p }
-    ensures { (length room.new ≡ size) × (result ≡ Answer.Answered (version_clock (store room.old) h p) (number_installed (store room.old) h p)) × (store room.new ≡ installedStore (store room.old) h p) }
+    ensures { (length room.new ≡ size) × (result ≡ Answer.Answered (version_clock (store room.old) h p) (number_installed (store room.old) h p)) × (store room.new ≡ installed_store (store room.old) h p) }
 {
     let o = outcome_of(room, h, p);
     let clock = o.clock.version;
@@ -246,7 +246,7 @@ fn free_place(room: &mut [u64], p: usize, f: usize, g: usize)
 // 10. "Takes the oldest message, installs its transactions, sets the entry for the sender. Answers the clock carried and the number installed."
 pub fn deliver(room: &mut [u64], p: usize, f: usize, g: usize) -> Answer
     requires { (length room.old ≡ size) × (p < partitions_max) × (f < halls_max) × (g < halls_max) × (store room.old (First g p f) < slots) × (1 ≤ store room.old (Waiting g p f)) }
-    ensures { (length room.new ≡ size) × (result ≡ Answer.Answered (clock_carried (store room.old) p f g) (number_carried (store room.old) p f g)) × (store room.new ≡ deliveredStore (store room.old) p f g) }
+    ensures { (length room.new ≡ size) × (result ≡ Answer.Answered (clock_carried (store room.old) p f g) (number_carried (store room.old) p f g)) × (store room.new ≡ delivered_store (store room.old) p f g) }
 {
     let m = oldest(room, p, f, g);
     let v = updated(vector_of(room, g, p), f, m.clock);

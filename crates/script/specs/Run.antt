@@ -1,14 +1,16 @@
 -- What running a script promises, for any text, any room and any buffer.
-use Rattle.std.specs.Prelude.{ℕ, ◌≤◌, Bool, true, false, cond, ◌&&◌, List, [], ◌++◌, ◌≡◌, refl, ◌⊎◌, eqb, leb, length, drop}
-use Rattle.std.proofs.Common.{sym, ap, ◌∙◌, inl, zero-add, arith, length-append, le-leb, eq-eqb, eqb-true}
+use Rattle.std.specs.Prelude.{ℕ, ◌≤◌, ◌<◌, Bool, true, false, cond, ◌&&◌, List, [], ◌++◌, ◌≡◌, refl, ◌⊎◌, eqb, leb, length, drop}
+use Rattle.std.proofs.Common.{lt-ltb, le-ltb, sym, ap, ◌∙◌, inl, zero-add, arith, length-append, le-leb, eq-eqb, eqb-true}
 use Rattle.std.proofs.Math.Logic.{⊎_map}
 use Rattle.book.specs.Cases.{by_test, and_true}
 use Rattle.book.specs.Reached.{Reached}
-use Rattle.ink.specs.Written.{Written, parts, then}
+use Rattle.ink.specs.Decimal.{script}
+use Rattle.book.specs.Cells.{Store}
+use Rattle.ink.specs.Written.{Written, Fits, parts, then}
 use Rattle.room.specs.Layout.{size, store}
 use Rattle.room.specs.Lay.{lay}
 use Rattle.room.proofs.Lay.{lay_store}
-use Rattle.script.specs.Printout.{Outcome, only, before, outcome, outcome_same, blank, printed}
+use Rattle.script.specs.Printout.{text_max, halls_from, outcome_is, Outcome, only, before, outcome, outcome_same, blank, printed}
 use Rattle.script.specs.Length.{capacity, outcome_fits}
 use Rattle.script.specs.Reaches.{outcome_reached}
 
@@ -27,6 +29,22 @@ joined w d = record { written = then w d.written; size = d.size; store = d.store
 pub ends : {xs out late left : List ℕ} {start next : ℕ}
     → Written out start xs late next → length left ≡ size → Done (only xs (store left)) start out late next left
 ends w h = record { written = w; size = h; store = refl }
+
+-- a text that is too long, and one that is not
+pub room_long : (text : List ℕ) (σ : Store) (out : List ℕ) → capacity ≤ length out → text_max < length text → Fits out 0 (script text_max)
+room_long text σ out h l = rw (outcome_is text σ, lt-ltb _ _ l) at (outcome_fits text σ out h)
+
+pub room_short : (text : List ℕ) (σ : Store) (out : List ℕ) → capacity ≤ length out → length text ≤ text_max
+    → Fits out 0 (halls_from text σ).bytes
+room_short text σ out h l = rw (outcome_is text σ, le-ltb _ _ l) at (outcome_fits text σ out h)
+
+pub ends_long : (text room out late : List ℕ) (next : ℕ) → Written out 0 (script 65536) late next → 65536 < length text
+    → length room ≡ size → Done (outcome text (store room)) 0 out late next room
+ends_long text room out late next w l h = rw (outcome_is text (store room), lt-ltb _ _ l) (ends w h)
+
+pub ends_short : (text out late left : List ℕ) (σ : Store) (next : ℕ) → length text ≤ text_max
+    → Done (halls_from text σ) 0 out late next left → Done (outcome text σ) 0 out late next left
+ends_short text out late left σ next l d = rw (outcome_is text σ, le-ltb _ _ l) d
 
 -- Nothing is done in a room of another length, or where the buffer could be too short for some text's printout.
 abbrev pub lent : List ℕ → List ℕ → Bool

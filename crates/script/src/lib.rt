@@ -137,6 +137,7 @@ fn halls(text: &[u8], room: &mut [u64], out: &mut [u8]) -> usize
 }
 
 // Any text, where the room has its length and the buffer is long enough.
+#[tactic(auto, using(crate::specs::Run::ends_long, crate::specs::Run::room_long, crate::specs::Run::room_short, crate::specs::Run::ends_short), unfolding(crate::specs::Printout::outcome))]
 fn print(text: &[u8], room: &mut [u64], out: &mut [u8]) -> usize
     requires { (length room.old ≡ size) × (capacity ≤ length out.old) }
     ensures { Done (outcome text.now (store room.old)) 0 out.old out.new result room.new }

@@ -6,8 +6,8 @@ ghost use Rattle.book.specs.Sizes.{halls_max, partitions_max, sessions_max, keys
 ghost use Rattle.book.specs.Cells.{cell, ◌⟨◌≔◌⟩, Transactions, WriteSet};
 ghost use Rattle.book.specs.Folds.{count};
 ghost use Rattle.book.specs.Sets.{member, include};
-ghost use Rattle.book.specs.Servers.{present as presentAt, partition_of};
-ghost use Rattle.book.specs.SessionSteps.{start as startStore, start_answer, read as readStore, read_answer, write as writeStore, has_writes, touches as touched, end as endStore, end_answer, move as moveStore};
+ghost use Rattle.book.specs.Servers.{present as present_of, partition_of};
+ghost use Rattle.book.specs.SessionSteps.{start as start_store, start_answer, read as read_store, read_answer, write as write_store, has_writes, touches as touched, end as end_store, end_answer, move as move_store};
 ghost use Rattle.room.specs.Layout.{size, Within, store};
 ghost use Rattle.views.specs.Partitions.{Parted};
 ghost use Rattle.sessions.specs.Starting.{Homed, begun, cleaned_at, cleaned};
@@ -28,7 +28,7 @@ use times::larger;
 // document 02, d: "the coordinator's hybrid clock, or its reading if larger"; (h, p) is the coordinator.
 fn present_at(room: &[u64], h: usize, p: usize) -> Timestamp
     requires { (length room.now ≡ size) × (h < halls_max) × (p < partitions_max) }
-    ensures { result.0 ≡ presentAt (store room.now) h p }
+    ensures { result.0 ≡ present_of (store room.now) h p }
 {
     let reading = Reading(room::get(room, READING, h, p, 0, 0));
     let hybrid = Timestamp(room::get(room, HYBRID, h, p, 0, 0));
@@ -76,7 +76,7 @@ fn clean_cache(room: &mut [u64], s: usize, snapshot: Timestamp)
 // 2. Start. "S becomes the larger of the coordinator's and the session's stable time"
 pub fn start(room: &mut [u64], s: usize) -> Answer
     requires { (length room.old ≡ size) × Homed (store room.old) s }
-    ensures { (length room.new ≡ size) × (result ≡ start_answer (store room.old) s) × (store room.new ≡ startStore (store room.old) s) }
+    ensures { (length room.new ≡ size) × (result ≡ start_answer (store room.old) s) × (store room.new ≡ start_store (store room.old) s) }
 {
     let h = room::get(room, HOME_HALL, s, 0, 0, 0) as usize;
     let p = room::get(room, HOME_PARTITION, s, 0, 0, 0) as usize;
@@ -147,7 +147,7 @@ fn look(room: &[u64], s: usize, k: usize) -> Found
 // 3. Read. "then at that hall's server, at S."
 pub fn read(room: &mut [u64], s: usize, k: usize, h: usize) -> Answer
     requires { (length room.old ≡ size) × (s < sessions_max) × (k < keys) × (h < halls_max) × Parted (store room.old) }
-    ensures { (length room.new ≡ size) × (result ≡ read_answer (store room.old) s k h) × (store room.new ≡ readStore (store room.old) s k h) }
+    ensures { (length room.new ≡ size) × (result ≡ read_answer (store room.old) s k h) × (store room.new ≡ read_store (store room.old) s k h) }
 {
     let found = look(room, s, k);
     if let Found::Value(v) = found {
@@ -161,7 +161,7 @@ pub fn read(room: &mut [u64], s: usize, k: usize, h: usize) -> Answer
 // 4. Write. "Replaces an earlier value in the write set."
 pub fn write(room: &mut [u64], s: usize, k: usize, v: u64) -> Answer
     requires { (length room.old ≡ size) × (s < sessions_max) × (k < keys) }
-    ensures { (length room.new ≡ size) × (result ≡ Answer.Answered 0 0) × (store room.new ≡ writeStore (store room.old) s k v) }
+    ensures { (length room.new ≡ size) × (result ≡ Answer.Answered 0 0) × (store room.new ≡ write_store (store room.old) s k v) }
 {
     enter(room, WRITE_SET, WRITE_VALUE, s, k, v);
     Answer::Answered(0, 0)
@@ -248,7 +248,7 @@ fn ask_states(room: &mut [u64], t: usize, m: u64) -> u64
 // "With writes": the keys m are asked for, at the next place.
 fn ask(room: &mut [u64], s: usize, m: u64) -> Answer
     requires { (length room.old ≡ size) × (s < sessions_max) × Parted (store room.old) × (store room.old Transactions < places_max) × (m ≡ store room.old (WriteSet s)) × (has_writes (store room.old) s ≡ true) }
-    ensures { (length room.new ≡ size) × (result ≡ end_answer (store room.old) s) × (store room.new ≡ endStore (store room.old) s) }
+    ensures { (length room.new ≡ size) × (result ≡ end_answer (store room.old) s) × (store room.new ≡ end_store (store room.old) s) }
 {
     let t = room::get(room, TRANSACTIONS, 0, 0, 0, 0) as usize;
     request(room, s, t, m);
@@ -260,7 +260,7 @@ fn ask(room: &mut [u64], s: usize, m: u64) -> Answer
 // 5. End. "Without: the session is idle, nothing else changes."
 pub fn end(room: &mut [u64], s: usize) -> Answer
     requires { (length room.old ≡ size) × (s < sessions_max) × Parted (store room.old) × ((has_writes (store room.old) s && leb places_max (store room.old Transactions)) ≡ false) }
-    ensures { (length room.new ≡ size) × (result ≡ end_answer (store room.old) s) × (store room.new ≡ endStore (store room.old) s) }
+    ensures { (length room.new ≡ size) × (result ≡ end_answer (store room.old) s) × (store room.new ≡ end_store (store room.old) s) }
 {
     let m = room::get(room, WRITE_SET, s, 0, 0, 0);
     if m == 0 {
@@ -273,7 +273,7 @@ pub fn end(room: &mut [u64], s: usize) -> Answer
 // 14. Move. "Its stable time, last commit time and cache go along."
 pub fn move_session(room: &mut [u64], s: usize, h: u64, p: u64) -> Answer
     requires { (length room.old ≡ size) × (s < sessions_max) }
-    ensures { (length room.new ≡ size) × (result ≡ Answer.Answered 0 0) × (store room.new ≡ moveStore (store room.old) s h p) }
+    ensures { (length room.new ≡ size) × (result ≡ Answer.Answered 0 0) × (store room.new ≡ move_store (store room.old) s h p) }
 {
     room::put(room, HOME_HALL, s, 0, 0, 0, h);
     room::put(room, HOME_PARTITION, s, 0, 0, 0, p);

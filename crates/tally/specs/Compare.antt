@@ -1,7 +1,7 @@
 -- Two texts compared byte by byte.
 use Rattle.std.specs.Prelude.{ℕ, ◌+◌, ◌≤◌, ◌<◌, Bool, true, false, cond, List, [], ◌∷◌, ◌≡◌, refl, eqb, length, get_or, drop}
 use Rattle.std.proofs.lemmas.Bool.{false≢true}
-use Rattle.std.proofs.Common.{ap, eqb-true, eq-eqb}
+use Rattle.std.proofs.Common.{sym, ◌∙◌, ap, eqb-true, eq-eqb}
 use Rattle.std.proofs.Math.Numerals.{add-one}
 use Rattle.std.proofs.Math.ListN.{drop_of_length-le}
 use Rattle.std.proofs.Math.Seq.{drop-cons}
@@ -34,6 +34,15 @@ module _ (xs ys : List ℕ) (i : ℕ) where
   pub past_both : length xs ≤ i → length ys ≤ i → compared (drop i xs) (drop i ys) i ≡ Same
   unfolding compared
   past_both h l = rw (drop_of_length-le xs h, drop_of_length-le ys l)
+
+-- what a comparison of two texts comes to, once the first is at its end
+pub second_longer : (xs ys : List ℕ) (i : ℕ) → compared (drop i xs) (drop i ys) i ≡ compared xs ys 0
+    → length xs ≤ i → i < length ys → At i ≡ compared xs ys 0
+second_longer xs ys i e h l = sym (at_second xs ys i h l) ∙ e
+
+pub both_ended : (xs ys : List ℕ) (i : ℕ) → compared (drop i xs) (drop i ys) i ≡ compared xs ys 0
+    → length xs ≤ i → length ys ≤ i → Same ≡ compared xs ys 0
+both_ended xs ys i e h l = sym (past_both xs ys i h l) ∙ e
 
 abbrev pub is_same : Compared → Bool
 is_same Same = true

@@ -17,6 +17,7 @@ pub enum Compared {
     At(usize),
 }
 
+#[tactic(auto, using(crate::specs::Compare::second_longer, crate::specs::Compare::both_ended))]
 fn compare(a: &[u8], b: &[u8]) -> Compared
     ensures { result ≡ compared a.now b.now 0 }
 {

@@ -4,7 +4,7 @@
 ghost use Rattle.std.specs.Prelude.{◌≡◌, ◌&&◌, ◌<◌, length};
 ghost use Rattle.book.specs.Sizes.{halls_max, partitions_max, keys, places_max};
 ghost use Rattle.book.specs.Servers.{partition_of, number_of};
-ghost use Rattle.book.specs.Views.{later as isLater, merge as merged, version, versions_of, wrote_by, held_view};
+ghost use Rattle.book.specs.Views.{later as is_later, merge as merged, version, versions_of, wrote_by, held_view};
 ghost use Rattle.room.specs.Layout.{size, store};
 ghost use Rattle.views.specs.Partitions.{Parted};
 ghost use Rattle.views.specs.Merging.{Looks, joined};
@@ -14,7 +14,7 @@ use room::{COMMIT_TIME, FROM, HELD, KEY_SET, PARTITIONS, VALUE};
 
 // "A later stamp wins, compared in that order"
 pub fn later(s: Stamp, t: Stamp) -> bool
-    ensures { result ≡ isLater s t }
+    ensures { result ≡ is_later s t }
 {
     if s.time.0 != t.time.0 {
         return s.time.0 > t.time.0;

@@ -1,5 +1,5 @@
 use Rattle.std.proofs.Common.{sym, arith, eq-eqb, ne_eqb}
-use Rattle.tally.specs.Compare.{at_both, at_first, at_second, past_both}
+use Rattle.tally.specs.Compare.{at_both, at_first}
 use Rattle.tally.proofs.compare.Goals as goal
 
 pub returns-then-i-b : goal.returns-then-i-b
@@ -12,9 +12,3 @@ returns-then-a-i c =
 pub loop-i-preserved : goal.loop-i-preserved
 loop-i-preserved c =
     rw (← c.loop-i.invariant, at_both c.args.a.now c.args.b.now c.loop-i.i (omega arith) (omega arith), eq-eqb _ _ c.if-a-i.false)
-
-pub returns-then-i-b-2 : goal.returns-then-i-b-2
-returns-then-i-b-2 c = rw (← c.loop-i.invariant) (sym (at_second c.args.a.now c.args.b.now c.loop-i.i (omega arith) (omega arith)))
-
-pub returns : goal.returns
-returns c = rw (← c.loop-i.invariant) (sym (past_both c.args.a.now c.args.b.now c.loop-i.i (omega arith) (omega arith)))
