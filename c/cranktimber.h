@@ -5,7 +5,7 @@
  * Nothing checks a caller in C, so it must see to this: each pointer is to as many words as the length after it says, is aligned,
  * and is not NULL even where the length is 0; the room overlaps neither masks nor homes; and no other thread uses the room during a
  * call. The room is all the memory there is: the library keeps nothing between calls. A call of setup takes about 60 KB of
- * stack (with the older kit; less with today's). */
+ * stack (measured with the older kit). */
 #ifndef CRANKTIMBER_H
 #define CRANKTIMBER_H
 
