@@ -56,11 +56,40 @@ function antt_ladder(name,   text) {
     gsub(/cond \(ltb n|[()]/, " ", text)
     return text
 }
-function code_ladder(name,   text) {
-    text = after(code, "fn " name "(kind: usize)", "\n}\n")
-    sub(/^[^{]*\{[^}]*\}[^{]*\{/, "", text)
-    gsub(/else|if kind <|[{}]/, " ", text)
+# The word of kind n in the code, with its indices named i1, i2, ..: the arm of word_of, and in it the words of a server and the like.
+function code_word(n,   text, args, arg, type, count, k, i, name, call) {
+    name = name_of[n]
+    text = after(code, "fn word_of(c: Cell)", "\n}\n")
+    gsub(/[ \n]+/, " ", text)
+    if (!match(text, "Cell::" name "(\\([a-z, ]*\\))? => ")) wrong("word_of has no " name)
+    args = substr(text, RSTART, RLENGTH); text = substr(text, RSTART + RLENGTH)
+    sub(/, (Cell::.*|} *$)/, "", text)
+    while (match(text, /[a-z]+_at\([a-z, ]*\)/)) {
+        call = substr(text, RSTART, RLENGTH)
+        text = substr(text, 1, RSTART - 1) helper(call) substr(text, RSTART + RLENGTH)
+    }
+    if (args !~ /\(/) return text
+    sub(/^[^(]*\(/, "", args); sub(/\).*/, "", args)
+    count = split(args, arg, ", ")
+    split(types_of[n], type, ", ")
+    k = 0
+    for (i = 1; i <= count; i++) {
+        if (type[i] == "Server") { gsub(arg[i] "\\.hall\\.index", "i" (k + 1), text); gsub(arg[i] "\\.partition\\.index", "i" (k + 2), text); k += 2 }
+        else { gsub("(^|[^a-z])" arg[i] "\\.index", " i" (k + 1), text); k++ }
+    }
+    indices_of[n] = k
     return text
+}
+# the body of a function such as server_at, which a call names with the names of its own parameters
+function helper(call,   name, text, head, names) {
+    name = call; sub(/\(.*/, "", name)
+    text = after(code, "fn " name "(", "\n}\n")
+    head = text; sub(/\).*/, "", head); gsub(/: [A-Za-z]+/, "", head)
+    names = call; sub(/^[^(]*\(/, "", names); sub(/\)$/, "", names)
+    same(code " " call, names, head)
+    sub(/^[^{]*\{[^}]*\}[^{]*\{/, "", text)
+    gsub(/[ \n]+/, " ", text)
+    return "(" text ")"
 }
 function each_rung(what, language, text, column,   n) {
     for (n = 0; n < kinds; n++) same(what " of " name_of[n], rung(language, text, n), at[n, column])
@@ -97,14 +126,17 @@ function names(c_words,   i, j, k, l, n, v, w, text, item, count, last, most, ow
     sub(/^[^(]*\(/, "", text); sub(/∷ *\[\].*/, "", text); gsub(/∷/, "|", text)
     same(layout " base, numbers", split(text, item, "|"), kinds)
     for (n = 0; n < kinds; n++) same(layout " base of " name_of[n], value("book", item[n + 1]), at[n, 0])
-    text = after(code, "const BASE: [usize; KINDS] = [", "];")
-    sub(/,[ \n]*$/, "", text)
-    same(code " BASE, numbers", split(text, item, ","), kinds)
-    for (n = 0; n < kinds; n++) same(code " BASE of " name_of[n], value("code", item[n + 1]), at[n, 0])
+    for (i = 1; i <= offsets; i++) number["code", offset[i]] = value("code", after(code, "const " offset[i] ": usize =", ";"))
+    for (n = 0; n < kinds; n++) {
+        text = code_word(n)
+        for (k = 0; k <= indices_of[n]; k++) {
+            for (i = 1; i <= 4; i++) number["code", "i" i] = i == k
+            v = value("code", text) - at[n, 0]
+            same(code " word_of " name_of[n] (k > 0 ? ", index " k : ""), v, k == 0 ? 0 : k == 4 ? 1 : at[n, k])
+        }
+    }
     split("step_i step_j step_k count_i count_j count_k count_l", ladder, " ")
     for (i = 1; i <= 7; i++) each_rung(layout " " ladder[i], "book", antt_ladder(ladder[i]), i)
-    split("step_i step_j step_k", ladder, " ")
-    for (i = 1; i <= 3; i++) each_rung(code " " ladder[i], "code", code_ladder(ladder[i]), i)
     # cells that share a word need a ladder of their own in Layout
     for (n = 0; n < kinds; n++) if (at[n, 8] != 1) { each_rung(layout " per_word", "book", antt_ladder("per_word"), 8); break }
 
@@ -145,9 +177,20 @@ function names(c_words,   i, j, k, l, n, v, w, text, item, count, last, most, ow
 # the kinds: their numbers, and how many indices they have
 function numbers(   i, n, used, count, lines, item, text) {
     same(layout " kinds", value("book", after(layout, "\nkinds =", "\n")), kinds)
-    same(code " KINDS", value("code", after(code, "const KINDS: usize =", ";")), kinds)
+    text = after(code, "pub enum Cell {", "}")
+    gsub(/\/\/[^\n]*/, "", text)
+    same(code " Cell, kinds", gsub(/,\n/, "\n", text), kinds)
+    count = split(text, item, "\n")
+    n = 0
+    for (i = 1; i <= count; i++) {
+        gsub(/^ +/, "", item[i])
+        if (item[i] == "") continue
+        types_of[n] = item[i]; sub(/^[A-Za-z]+\(?/, "", types_of[n]); sub(/\)$/, "", types_of[n])
+        sub(/\(.*/, "", item[i])
+        same(code " Cell " n, item[i], name_of[n])
+        n++
+    }
     for (n = 0; n < kinds; n++) {
-        same(code " " code_of[n], value("code", after(code, "pub const " code_of[n] ": usize =", ";")), n)
         used = 4
         while (used > 0 && text_of[n, 3 + used] == "1") used--
         count = split(after(cells, "\nabbrev pub " name_of[n] " :", "\n\n"), lines, "\n")
@@ -203,7 +246,7 @@ function page_table(   i, j, k, n, b, v, text, item, piece, column, count, many)
 }
 
 # ---- The files ----
-BEGIN { kinds = 0 }
+BEGIN { kinds = 0; offsets = split("HYBRID_AT ENTRIES_AT HELD_AT", offset, " ") }
 FILENAME != table { whole[FILENAME] = whole[FILENAME] $0 "\n"; next }
 /^#/ || NF == 0 { next }
 $1 == "size" { sizes++; size_book[sizes] = $2; size_code[sizes] = $3; size_c[sizes] = $4; next }
@@ -227,8 +270,8 @@ END {
     layout = "crates/room/specs/Layout.antt"; cells = "crates/book/specs/Cells.antt"; code = "crates/room/src/lib.rt"
     part = "crates/room/src/stretch.rt"; page = "docs/ROOM.md"; test = "c/test.c"
     read_sizes()
-    names(value("c", after("c/cranktimber.h", "enum { CRANKTIMBER_WORDS =", "}")))
     numbers()
+    names(value("c", after("c/cranktimber.h", "enum { CRANKTIMBER_WORDS =", "}")))
     page_table()
     true_size = size
     # with sizes that are all different, so that a name in the place of another is seen where both have one number

@@ -1,12 +1,12 @@
 -- A transaction's writes on their way to its session's cache, key by key.
-use Rattle.std.specs.Prelude.{ℕ, ◌+◌, ◌≤◌, ◌<◌, ◌^◌, Bool, true, cond, ◌&&◌, ◌≡◌, refl, eqb}
+use Rattle.std.specs.Prelude.{ℕ, ◌+◌, ◌≤◌, ◌<◌, ◌^◌, Bool, true, false, cond, ◌&&◌, ◌≡◌, refl, eqb}
 use Rattle.std.proofs.Common.{true≢false, sym, ap, ◌∙◌, arith}
 use Rattle.book.specs.Sizes.{keys}
 use Rattle.book.specs.Cells.{Cell, same, Store, ◌⟨◌≔◌⟩, each2, CacheValue, CacheTime, KeySet, Value}
 use Rattle.book.specs.Updates.{bulk, upd, commute}
 use Rattle.book.specs.Sets.{member}
 use Rattle.masks.specs.Bits.{member_beyond}
-use Rattle.room.specs.Bulk.{Row, up_to, begin, ahead, next, done, row2j}
+use Rattle.room.specs.Bulk.{Row, up_to, begin, ahead, puts, skips, next, done, row2j}
 
 -- one key of the transaction at place t, if it is in the set m: to the cache of session s, at time x
 abbrev pub key_cached : Store → ℕ → ℕ → ℕ → ℕ → ℕ → Store
@@ -53,6 +53,21 @@ module _ (t s x m : ℕ) where
       upd (CacheTime s n) _ (round values among v n (times_to n σ))
       ∙ commute (CacheTime s n).kind (CacheValue s n).kind (same (CacheTime s n)) _ _ v (times_to n σ) refl
       ∙ ap (λ (τ : Store). up_to values among v (n + 1) τ) (round times among (λ d. x) n σ)
+
+  -- a key that moves, and one that does not
+  pub cached_puts : (n : ℕ) (σ : Store) → member m n ≡ true
+      → cached_to n σ ⟨ CacheValue s n ≔ σ (Value t n) ⟩ ⟨ CacheTime s n ≔ x ⟩ ≡ cached_to (n + 1) σ
+  cached_puts n σ e =
+      let v : Cell → ℕ = λ d. σ (Value t d.j) in
+      upd (CacheTime s n) x (puts values among v n (times_to n σ) e)
+      ∙ commute (CacheTime s n).kind (CacheValue s n).kind (same (CacheTime s n)) _ _ v (times_to n σ) refl
+      ∙ ap (λ (τ : Store). up_to values among v (n + 1) τ) (puts times among (λ d. x) n σ e)
+
+  pub cached_skips : (n : ℕ) (σ : Store) → member m n ≡ false → cached_to n σ ≡ cached_to (n + 1) σ
+  cached_skips n σ e =
+      let v : Cell → ℕ = λ d. σ (Value t d.j) in
+      skips values among v n (times_to n σ) e
+      ∙ ap (λ (τ : Store). up_to values among v (n + 1) τ) (skips times among (λ d. x) n σ e)
 
   -- a set of the room's keys has none beyond them
   beyond : m < 2 ^ keys → (i y z : ℕ) → keys ≤ i → member m i ≡ true → y ≡ z

@@ -13,7 +13,7 @@ pub extern "C" fn cranktimber_setup(room: &mut [u64], masks: &[u64], homes: &[u6
         (setup_room room.old masks.now homes.now)
         (setup_store room.old masks.now homes.now) result room.new }
 {
-    answers::numbers(setup::setup(room, masks, homes))
+    Numbers::from(setup::setup(room, masks, homes))
 }
 
 #[unsafe(no_mangle)]
@@ -21,5 +21,5 @@ pub extern "C" fn cranktimber_step(room: &mut [u64], code: u64, a: u64, b: u64, 
     ensures { Told (step_answer room.old code a b c) (step_room room.old code a b c)
         (step_store room.old code a b c) result room.new }
 {
-    answers::numbers(store::step(room, code, a, b, c))
+    Numbers::from(store::step(room, code, a, b, c))
 }

@@ -1,3 +1,4 @@
 pub mod Blocks
 pub mod Counts
 pub mod Passing
+pub mod Sums

@@ -1,16 +1,12 @@
 // Printing into a lent buffer: each function writes from the place `at` on and returns the place after what it wrote.
+// kept: a writer that holds buffer and place would have a `&mut` in it, and each of its methods would have to say that it keeps that loan.
 #![tactic(auto)]
 
-ghost use Rattle.std.specs.Prelude.{◌≡◌, ◌+◌, ◌<◌, [], ◌∷◌};
+ghost use Rattle.std.specs.Prelude.{[], ◌∷◌};
 ghost use Rattle.ink.specs.Decimal.{digits, item, line, script};
 ghost use Rattle.ink.specs.Written.{Written, Fits};
 
-fn digit(d: u64) -> u8
-    requires { d < 10 }
-    ensures { result ≡ 48 + d }
-{
-    48 + d as u8
-}
+use itoa::Buffer;
 
 pub fn put_byte(out: &mut [u8], at: usize, b: u8) -> usize
     requires { Fits out.old at (b ∷ []) }
@@ -24,24 +20,18 @@ pub fn put_bytes(out: &mut [u8], at: usize, s: &[u8]) -> usize
     requires { Fits out.old at s.now }
     ensures { Written out.old at s.now out.new result }
 {
-    let mut next = at;
-    let mut i = 0;
-    while i < s.len() {
-        next = put_byte(out, next, s[i]);
-        i += 1;
-    }
+    let next = at + s.len();
+    out[at..next].copy_from_slice(s);
     next
 }
 
+#[tactic(auto, using(crate::proofs::Decimal::digits_is))]
 pub fn put_number(out: &mut [u8], at: usize, n: u64) -> usize
     requires { Fits out.old at (digits n) }
     ensures { Written out.old at (digits n) out.new result }
 {
-    if n < 10 {
-        return put_byte(out, at, digit(n));
-    }
-    let next = put_number(out, at, n / 10);
-    put_byte(out, next, digit(n % 10))
+    let mut buffer = Buffer::new();
+    put_bytes(out, at, buffer.format(n).as_bytes())
 }
 
 // A number and the byte after it.
@@ -64,10 +54,10 @@ pub fn put_line(
     requires { Fits out.old at (line step refusal first second) }
     ensures { Written out.old at (line step refusal first second) out.new result }
 {
-    let p = put_item(out, at, step, 32);
-    let q = put_item(out, p, refusal, 32);
-    let s = put_item(out, q, first, 32);
-    put_item(out, s, second, 10)
+    let after_step = put_item(out, at, step, b' ');
+    let after_refusal = put_item(out, after_step, refusal, b' ');
+    let after_first = put_item(out, after_refusal, first, b' ');
+    put_item(out, after_first, second, b'\n')
 }
 
 pub fn put_script(out: &mut [u8], at: usize, offset: usize) -> usize
@@ -75,5 +65,5 @@ pub fn put_script(out: &mut [u8], at: usize, offset: usize) -> usize
     ensures { Written out.old at (script offset) out.new result }
 {
     let next = put_bytes(out, at, b"script ");
-    put_item(out, next, offset as u64, 10)
+    put_item(out, next, offset as u64, b'\n')
 }

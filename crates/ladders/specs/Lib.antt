@@ -1,3 +1,4 @@
 pub mod Sized
 pub mod Unknown
 pub mod Full
+pub mod Checked

@@ -1,305 +1,296 @@
-// "Turned away": for each step the first number that applies, 0 where none does. The numbers are any.
+// "Turned away": each step from its numbers, or the first refusal that applies. The numbers are any.
 #![tactic(auto)]
 
-ghost use Rattle.std.specs.Prelude.{◌≡◌, ℕ, ◌<◌, cond, ◌&&◌, ◌||◌, length, eqb, ltb};
-ghost use Rattle.book.specs.Refusals.{tick_refusal, start_refusal, read_refusal, write_refusal, end_refusal, prepare_refusal, decide_refusal, commit_refusal, install_refusal, deliver_refusal, server_refusal, share_refusal, move_refusal, session_there, transaction_there, unused, all_prepared};
-ghost use Rattle.book.specs.Sizes.{halls_max, partitions_max, keys, places_max};
-ghost use Rattle.book.specs.Cells.{Partitions, State, prepared};
+ghost use Rattle.std.specs.Prelude.{ℕ, ◌≡◌, ◌<◌, ◌≤◌, ⊤, ltb};
+ghost use Rattle.book.specs.Sizes.{halls_max, partitions_max, keys};
+ghost use Rattle.book.specs.Cells.{Halls, Partitions};
 ghost use Rattle.book.specs.Folds.{any};
-ghost use Rattle.book.specs.Servers.{holds, partition_of};
-ghost use Rattle.room.specs.Layout.{size, store};
-ghost use Rattle.book.specs.Steps.{refusal as refusal_of};
-ghost use Rattle.replication.specs.Safe.{AllCoordinated, AllTimely};
+ghost use Rattle.book.specs.Servers.{holds, number_of};
+ghost use Rattle.book.specs.Refusals.{tick_refusal, start_refusal, read_refusal, write_refusal, end_refusal, prepare_refusal, decide_refusal, commit_refusal, install_refusal, deliver_refusal, server_refusal, share_refusal, move_refusal, session_there, transaction_there, unused, all_prepared};
+ghost use Rattle.room.specs.Layout.{store};
 ghost use Rattle.ladders.specs.Sized.{Sized};
+ghost use Rattle.replication.specs.Safe.{AllCoordinated, AllTimely};
 ghost use Rattle.ladders.specs.Full.{full_to};
+ghost use Rattle.ladders.specs.Checked.{Found, Laddered, Checked};
+
+mod sized;
 
 use book::{
-    HALLS_MAX, IDLE, KEYS_MAX, PARTITIONS_MAX, PLACES_MAX, READING_MAX, RUNNING, Reading,
-    SLOTS_MAX, STATE_ASKED, STATE_PREPARED, Timestamp, TxNumber, VALUE_MAX,
+    Below, HALLS_MAX, Hall, KEYS_MAX, Key, PARTITIONS_MAX, PLACES_MAX, Partition, Place,
+    READING_MAX, Reading, Refusal, SLOTS_MAX, Server, Session, State, Status, Step, TxNumber,
+    VALUE_MAX,
 };
-use room::{
-    COMMIT_TIME, HALLS, PARTITIONS, READING, SESSIONS, STATE, STATUS, TRANSACTIONS, WAITING,
-    WRITE_SET,
-};
+use room::{Cell, Room};
 use servers::place_of;
+pub use sized::SizedRoom;
 
-fn when(a: bool, n: u64, rest: u64) -> u64
-    ensures { result ≡ cond a n rest }
+// One of the first `count`.
+fn below<const N: usize>(x: u64, count: u64) -> Result<Below<N>, Refusal>
+    requires { count ≤ N }
+    ensures { Found (ltb x count) (λ y. y.index ≡ x) result }
 {
-    if a { n } else { rest }
-}
-
-fn both(a: bool, b: bool) -> bool
-    ensures { result ≡ (a && b) }
-{
-    if a { b } else { false }
-}
-
-fn either(a: bool, b: bool) -> bool
-    ensures { result ≡ (a || b) }
-{
-    if a { true } else { b }
-}
-
-fn session_there(room: &[u64], s: u64) -> bool
-    requires { length room.now ≡ size }
-    ensures { result ≡ session_there (store room.now) s }
-{
-    s < room::get(room, SESSIONS, 0, 0, 0, 0)
-}
-
-fn transaction_there(room: &[u64], n: TxNumber) -> bool
-    requires { length room.now ≡ size }
-    ensures { result ≡ transaction_there (store room.now) n.0 }
-{
-    both(1 <= n.0, n.0 <= room::get(room, TRANSACTIONS, 0, 0, 0, 0))
-}
-
-// a session, and two numbers that are not used
-fn session_alone(room: &[u64], s: u64, y: u64, z: u64) -> bool
-    requires { length room.now ≡ size }
-    ensures { result ≡ (session_there (store room.now) s && (unused y && unused z)) }
-{
-    both(session_there(room, s), both(y == 0, z == 0))
-}
-
-fn server_there(room: &[u64], h: u64, p: u64) -> bool
-    requires { length room.now ≡ size }
-    ensures { result ≡ holds (store room.now) h p }
-{
-    servers::holds(room, h as usize, p as usize)
-}
-
-// a transaction's pair, and a number that is not used
-fn pair_there(room: &[u64], n: TxNumber, p: u64, z: u64) -> bool
-    requires { length room.now ≡ size }
-    ensures { result ≡ (transaction_there (store room.now) n.0 && (ltb p (store room.now Partitions) && unused z)) }
-{
-    both(
-        transaction_there(room, n),
-        both(p < room::get(room, PARTITIONS, 0, 0, 0, 0), z == 0),
-    )
-}
-
-pub fn tick(room: &[u64], h: u64, p: u64, x: Reading) -> u64
-    requires { (length room.now ≡ size) × Sized (store room.now) }
-    ensures { result ≡ tick_refusal (store room.now) h p x.0 }
-{
-    if !server_there(room, h, p) {
-        return 3;
+    if x < count {
+        Ok(Below::new(x as usize))
+    } else {
+        Err(Refusal::NotThere)
     }
-    let last = Reading(room::get(room, READING, h as usize, p as usize, 0, 0));
-    when(x.0 > READING_MAX, 4, when(x.0 < last.0, 5, 0))
 }
 
-pub fn start(room: &[u64], s: u64, y: u64, z: u64) -> u64
-    requires { (length room.now ≡ size) × Sized (store room.now) }
-    ensures { result ≡ start_refusal (store room.now) s y z }
+fn session(room: &SizedRoom, s: u64) -> Result<Session, Refusal>
+    ensures { Found (session_there (store room.now) s) (λ x. x.index ≡ s) result }
 {
-    if !session_alone(room, s, y, z) {
-        return 3;
-    }
-    when(room::get(room, STATUS, s as usize, 0, 0, 0) != IDLE, 6, 0)
+    below(s, room.get(Cell::Sessions))
 }
 
-pub fn read(room: &[u64], s: u64, k: u64, h: u64) -> u64
-    requires { (length room.now ≡ size) × Sized (store room.now) }
-    ensures { result ≡ read_refusal (store room.now) s k h }
+fn server(room: &SizedRoom, h: u64, p: u64) -> Result<Server, Refusal>
+    ensures { Found (holds (store room.now) h p) (λ x. (x.hall.index ≡ h) × (x.partition.index ≡ p)) result }
 {
-    if !key_there(room, s, k, h) {
-        return 3;
+    if servers::holds(room.words(), h as usize, p as usize) {
+        Ok(Server::new(h as usize, p as usize))
+    } else {
+        Err(Refusal::NotThere)
     }
-    when(
-        room::get(room, STATUS, s as usize, 0, 0, 0) != RUNNING,
-        7,
-        0,
-    )
 }
 
-pub fn write(room: &[u64], s: u64, k: u64, v: u64) -> u64
-    requires { (length room.now ≡ size) × Sized (store room.now) }
-    ensures { result ≡ write_refusal (store room.now) s k v }
+fn hall(room: &SizedRoom, h: u64) -> Result<Hall, Refusal>
+    ensures { Found (ltb h (store room.now Halls)) (λ x. x.index ≡ h) result }
 {
-    if !both(session_there(room, s), k < KEYS_MAX as u64) {
-        return 3;
-    }
-    let status = room::get(room, STATUS, s as usize, 0, 0, 0);
-    when(v > VALUE_MAX, 12, when(status != RUNNING, 7, 0))
+    below(h, room.get(Cell::Halls))
 }
 
-pub fn end(room: &[u64], s: u64, y: u64, z: u64) -> u64
-    requires { (length room.now ≡ size) × Sized (store room.now) }
-    ensures { result ≡ end_refusal (store room.now) s y z }
+fn place(room: &SizedRoom, n: TxNumber) -> Result<Place, Refusal>
+    ensures { Found (transaction_there (store room.now) n.0) (λ x. number_of x.index ≡ n.0) result }
 {
-    if !session_alone(room, s, y, z) {
-        return 3;
+    if 1 <= n.0 && n.0 <= room.get(Cell::Transactions) {
+        Ok(place_of(n))
+    } else {
+        Err(Refusal::NotThere)
     }
-    let status = room::get(room, STATUS, s as usize, 0, 0, 0);
-    let wrote = room::get(room, WRITE_SET, s as usize, 0, 0, 0);
-    let asked = room::get(room, TRANSACTIONS, 0, 0, 0, 0);
-    when(
-        status != RUNNING,
-        7,
-        when(both(wrote != 0, PLACES_MAX as u64 <= asked), 8, 0),
-    )
 }
 
-pub fn prepare(room: &[u64], n: TxNumber, p: u64, z: u64) -> u64
-    requires { (length room.now ≡ size) × Sized (store room.now) }
-    ensures { result ≡ prepare_refusal (store room.now) n.0 p z }
+fn partition(room: &SizedRoom, p: u64) -> Result<Partition, Refusal>
+    ensures { Found (ltb p (store room.now Partitions)) (λ x. x.index ≡ p) result }
 {
-    if !pair_there(room, n, p, z) {
-        return 3;
-    }
-    let t = place_of(n);
-    when(
-        room::get(room, STATE, t, p as usize, 0, 0) != STATE_ASKED,
-        9,
-        0,
-    )
+    below(p, room.get(Cell::Partitions))
 }
 
-pub fn commit(room: &[u64], n: TxNumber, p: u64, z: u64) -> u64
-    requires { (length room.now ≡ size) × Sized (store room.now) }
-    ensures { result ≡ commit_refusal (store room.now) n.0 p z }
+fn key(k: u64) -> Result<Key, Refusal>
+    ensures { Found (ltb k keys) (λ x. x.index ≡ k) result }
 {
-    if !pair_there(room, n, p, z) {
-        return 3;
-    }
-    let t = place_of(n);
-    let time = Timestamp(room::get(room, COMMIT_TIME, t, 0, 0, 0));
-    let state = room::get(room, STATE, t, p as usize, 0, 0);
-    when(!both(0 < time.0, state == STATE_PREPARED), 9, 0)
+    below(k, KEYS_MAX as u64)
 }
 
-pub fn decide(room: &[u64], n: TxNumber, y: u64, z: u64) -> u64
-    requires { (length room.now ≡ size) × Sized (store room.now) }
-    ensures { result ≡ decide_refusal (store room.now) n.0 y z }
+fn unused(z: u64) -> Result<(), Refusal>
+    ensures { Found (unused z) (λ _. ⊤) result }
 {
-    if !both(transaction_there(room, n), both(y == 0, z == 0)) {
-        return 3;
+    if z == 0 {
+        Ok(())
+    } else {
+        Err(Refusal::NotThere)
     }
-    let t = place_of(n);
-    let time = Timestamp(room::get(room, COMMIT_TIME, t, 0, 0, 0));
-    when(!both(all_prepared(room, t), !(0 < time.0)), 9, 0)
 }
 
-pub fn install(room: &[u64], h: u64, p: u64, z: u64) -> u64
-    requires { (length room.now ≡ size) × Sized (store room.now) × AllCoordinated (store room.now) × ((q : ℕ) → q < partitions_max → AllTimely (store room.now) q) }
-    ensures { result ≡ install_refusal (store room.now) h p z }
+pub fn tick(room: &SizedRoom, h: u64, p: u64, x: Reading) -> Result<Step, Refusal>
+    ensures { Laddered (tick_refusal (store room.now) h p x.0) (1, h, p, x.0) result }
 {
-    if !both(server_there(room, h, p), z == 0) {
-        return 3;
+    let s = server(room, h, p)?;
+    if x > Reading(READING_MAX) {
+        return Err(Refusal::ReadingTooLarge);
     }
+    if x < Reading(room.get(Cell::Reading(s))) {
+        return Err(Refusal::ReadingBelowLast);
+    }
+    Ok(Step::Tick(s, x))
+}
+
+pub fn start(room: &SizedRoom, s: u64, y: u64, z: u64) -> Result<Step, Refusal>
+    ensures { Laddered (start_refusal (store room.now) s y z) (2, s, y, z) result }
+{
+    let s = session(room, s)?;
+    unused(y)?;
+    unused(z)?;
+    if room.get(Cell::Status(s)) != Status::Idle as u64 {
+        return Err(Refusal::NotIdle);
+    }
+    Ok(Step::Start(s))
+}
+
+pub fn read(room: &SizedRoom, s: u64, k: u64, h: u64) -> Result<Step, Refusal>
+    ensures { Laddered (read_refusal (store room.now) s k h) (3, s, k, h) result }
+{
+    let s = session(room, s)?;
+    let p = k % room.get(Cell::Partitions);
+    let k = key(k)?;
+    let holder = server(room, h, p)?;
+    if room.get(Cell::Status(s)) != Status::Running as u64 {
+        return Err(Refusal::NotRunning);
+    }
+    Ok(Step::Read(s, k, holder.hall))
+}
+
+pub fn write(room: &SizedRoom, s: u64, k: u64, v: u64) -> Result<Step, Refusal>
+    ensures { Laddered (write_refusal (store room.now) s k v) (4, s, k, v) result }
+{
+    let s = session(room, s)?;
+    let k = key(k)?;
+    if v > VALUE_MAX {
+        return Err(Refusal::ValueTooLarge);
+    }
+    if room.get(Cell::Status(s)) != Status::Running as u64 {
+        return Err(Refusal::NotRunning);
+    }
+    Ok(Step::Write(s, k, v))
+}
+
+pub fn end(room: &SizedRoom, s: u64, y: u64, z: u64) -> Result<Step, Refusal>
+    ensures { Laddered (end_refusal (store room.now) s y z) (5, s, y, z) result }
+{
+    let s = session(room, s)?;
+    unused(y)?;
+    unused(z)?;
+    if room.get(Cell::Status(s)) != Status::Running as u64 {
+        return Err(Refusal::NotRunning);
+    }
+    let wrote = room.get(Cell::WriteSet(s)) != 0;
+    if wrote && room.get(Cell::Transactions) >= PLACES_MAX as u64 {
+        return Err(Refusal::NoPlaceLeft);
+    }
+    Ok(Step::End(s))
+}
+
+pub fn prepare(room: &SizedRoom, n: TxNumber, p: u64, z: u64) -> Result<Step, Refusal>
+    ensures { Laddered (prepare_refusal (store room.now) n.0 p z) (6, n.0, p, z) result }
+{
+    let t = place(room, n)?;
+    let p = partition(room, p)?;
+    unused(z)?;
+    if room.get(Cell::State(t, p)) != State::Asked as u64 {
+        return Err(Refusal::WrongState);
+    }
+    Ok(Step::Prepare(t, p))
+}
+
+fn all_prepared(room: &SizedRoom, t: Place) -> bool
+    ensures { result ≡ all_prepared (store room.now) t.index }
+{
+    (0..PARTITIONS_MAX).all(|p| {
+        let state = room.get(Cell::State(t, Partition::new(p)));
+        state == State::Unwritten as u64 || state == State::Prepared as u64
+    })
+}
+
+pub fn decide(room: &SizedRoom, n: TxNumber, y: u64, z: u64) -> Result<Step, Refusal>
+    ensures { Laddered (decide_refusal (store room.now) n.0 y z) (7, n.0, y, z) result }
+{
+    let t = place(room, n)?;
+    unused(y)?;
+    unused(z)?;
+    if !all_prepared(room, t) || room.get(Cell::CommitTime(t)) != 0 {
+        return Err(Refusal::WrongState);
+    }
+    Ok(Step::Decide(t))
+}
+
+pub fn commit(room: &SizedRoom, n: TxNumber, p: u64, z: u64) -> Result<Step, Refusal>
+    ensures { Laddered (commit_refusal (store room.now) n.0 p z) (8, n.0, p, z) result }
+{
+    let t = place(room, n)?;
+    let p = partition(room, p)?;
+    unused(z)?;
+    let decided = room.get(Cell::CommitTime(t)) != 0;
+    if !decided || room.get(Cell::State(t, p)) != State::Prepared as u64 {
+        return Err(Refusal::WrongState);
+    }
+    Ok(Step::Commit(t, p))
+}
+
+// The channel from s to some hall holds all the messages that it can.
+fn channel_full(room: &SizedRoom, s: Server) -> bool
+    ensures { result ≡ any halls_max (full_to (store room.now) s.hall.index s.partition.index) }
+{
+    (0..HALLS_MAX).any(|g| {
+        let to = Server {
+            hall: Hall::new(g),
+            partition: s.partition,
+        };
+        replication::other_holder(room.words(), s.hall.index, s.partition.index, g)
+            && room.get(Cell::Waiting(to, s.hall)) >= SLOTS_MAX as u64
+    })
+}
+
+#[tactic(auto, using(crate::specs::Full::asked_once))]
+pub fn install(room: &SizedRoom, h: u64, p: u64, z: u64) -> Result<Step, Refusal>
+    requires { AllCoordinated (store room.now) × ((q : ℕ) → q < partitions_max → AllTimely (store room.now) q) }
+    ensures { Laddered (install_refusal (store room.now) h p z) (9, h, p, z) result }
+{
+    let s = server(room, h, p)?;
+    unused(z)?;
     // first what costs little: whether the install is quiet is asked only where a channel is full
-    if !channel_full(room, h as usize, p as usize) {
-        return 0;
+    if channel_full(room, s) && !replication::is_quiet(room.words(), s) {
+        return Err(Refusal::ChannelFull);
     }
-    when(!replication::is_quiet(room, h as usize, p as usize), 10, 0)
+    Ok(Step::Install(s))
 }
 
-pub fn deliver(room: &[u64], p: u64, f: u64, g: u64) -> u64
-    requires { (length room.now ≡ size) × Sized (store room.now) }
-    ensures { result ≡ deliver_refusal (store room.now) p f g }
+pub fn deliver(room: &SizedRoom, p: u64, f: u64, g: u64) -> Result<Step, Refusal>
+    ensures { Laddered (deliver_refusal (store room.now) p f g) (10, p, f, g) result }
 {
-    if !both(
-        server_there(room, f, p),
-        both(server_there(room, g, p), f != g),
-    ) {
-        return 3;
+    let from = server(room, f, p)?;
+    let to = server(room, g, p)?;
+    if f == g {
+        return Err(Refusal::NotThere);
     }
-    when(
-        room::get(room, WAITING, g as usize, p as usize, f as usize, 0) == 0,
-        11,
-        0,
-    )
-}
-
-pub fn server(room: &[u64], h: u64, p: u64, z: u64) -> u64
-    requires { (length room.now ≡ size) × Sized (store room.now) }
-    ensures { result ≡ server_refusal (store room.now) h p z }
-{
-    when(!both(server_there(room, h, p), z == 0), 3, 0)
-}
-
-pub fn share(room: &[u64], f: u64, to: u64, z: u64) -> u64
-    requires { (length room.now ≡ size) × Sized (store room.now) }
-    ensures { result ≡ share_refusal (store room.now) f to z }
-{
-    let halls = room::get(room, HALLS, 0, 0, 0, 0);
-    when(!both(f < halls, both(to < halls, z == 0)), 3, 0)
-}
-
-pub fn move_session(room: &[u64], s: u64, h: u64, p: u64) -> u64
-    requires { (length room.now ≡ size) × Sized (store room.now) }
-    ensures { result ≡ move_refusal (store room.now) s h p }
-{
-    if !session_there(room, s) {
-        return 3;
+    if room.get(Cell::Waiting(to, from.hall)) == 0 {
+        return Err(Refusal::ChannelEmpty);
     }
-    let status = room::get(room, STATUS, s as usize, 0, 0, 0);
-    when(!server_there(room, h, p), 3, when(status != IDLE, 6, 0))
+    Ok(Step::Deliver(to, from.hall))
 }
 
-// a session, a key, and a hall that holds it
-fn key_there(room: &[u64], s: u64, k: u64, h: u64) -> bool
-    requires { (length room.now ≡ size) × Sized (store room.now) }
-    ensures { result ≡ (session_there (store room.now) s && (ltb k keys && holds (store room.now) h (partition_of (store room.now) k))) }
+pub fn report(room: &SizedRoom, h: u64, p: u64, z: u64) -> Result<Step, Refusal>
+    ensures { Laddered (server_refusal (store room.now) h p z) (11, h, p, z) result }
 {
-    let p = k % room::get(room, PARTITIONS, 0, 0, 0, 0);
-    both(
-        session_there(room, s),
-        both(k < KEYS_MAX as u64, server_there(room, h, p)),
-    )
+    let s = server(room, h, p)?;
+    unused(z)?;
+    Ok(Step::Report(s))
 }
 
-// a partition's state in which a decide may find it
-fn ready(room: &[u64], t: usize, p: usize) -> bool
-    requires { (length room.now ≡ size) × (t < places_max) × (p < partitions_max) }
-    ensures { result ≡ (eqb (store room.now (State t p)) 0 || eqb (store room.now (State t p)) prepared) }
+pub fn share(room: &SizedRoom, f: u64, h: u64, z: u64) -> Result<Step, Refusal>
+    ensures { Laddered (share_refusal (store room.now) f h z) (12, f, h, z) result }
 {
-    let state = room::get(room, STATE, t, p, 0, 0);
-    either(state == 0, state == STATE_PREPARED)
+    let from = hall(room, f)?;
+    let to = hall(room, h)?;
+    unused(z)?;
+    Ok(Step::Share(from, to))
 }
 
-fn all_prepared(room: &[u64], t: usize) -> bool
-    requires { (length room.now ≡ size) × (t < places_max) }
-    ensures { result ≡ all_prepared (store room.now) t }
+// kept: as report is, since one for both would take the step's name and its code, and be no shorter
+pub fn learn(room: &SizedRoom, h: u64, p: u64, z: u64) -> Result<Step, Refusal>
+    ensures { Laddered (server_refusal (store room.now) h p z) (13, h, p, z) result }
 {
-    let mut so_far = true;
-    for p in 0..PARTITIONS_MAX {
-        so_far = both(ready(room, t, p), so_far);
+    let s = server(room, h, p)?;
+    unused(z)?;
+    Ok(Step::Learn(s))
+}
+
+pub fn move_session(room: &SizedRoom, s: u64, h: u64, p: u64) -> Result<Step, Refusal>
+    ensures { Laddered (move_refusal (store room.now) s h p) (14, s, h, p) result }
+{
+    let s = session(room, s)?;
+    let to = server(room, h, p)?;
+    if room.get(Cell::Status(s)) != Status::Idle as u64 {
+        return Err(Refusal::NotIdle);
     }
-    so_far
+    Ok(Step::Move(s, to))
 }
 
-// the channel from h to g holds all the messages that it can, where there is one
-fn full_to(room: &[u64], h: usize, p: usize, g: usize) -> bool
-    requires { (length room.now ≡ size) × (h < halls_max) × (p < partitions_max) × (g < halls_max) }
-    ensures { result ≡ full_to (store room.now) h p g }
+// The step that these numbers name, or why it is turned away.
+#[tactic(auto, using(crate::specs::Unknown::unknown), unfolding(book::specs::Steps::refusal, book::specs::Steps::rule_of))]
+pub fn checked(room: &Room, code: u64, a: u64, b: u64, c: u64) -> Result<Step, Refusal>
+    requires { Sized (store room.now) × AllCoordinated (store room.now) × ((q : ℕ) → q < partitions_max → AllTimely (store room.now) q) }
+    ensures { Checked (store room.now) code a b c result }
 {
-    both(
-        replication::other_holder(room, h, p, g),
-        SLOTS_MAX as u64 <= room::get(room, WAITING, g, p, h, 0),
-    )
-}
-
-fn channel_full(room: &[u64], h: usize, p: usize) -> bool
-    requires { (length room.now ≡ size) × (h < halls_max) × (p < partitions_max) }
-    ensures { result ≡ any halls_max (full_to (store room.now) h p) }
-{
-    let mut so_far = false;
-    for g in 0..HALLS_MAX {
-        so_far = either(full_to(room, h, p, g), so_far);
-    }
-    so_far
-}
-
-// the number given to a step, 0 where it is taken
-pub fn refusal(room: &[u64], code: u64, a: u64, b: u64, c: u64) -> u64
-    requires { (length room.now ≡ size) × Sized (store room.now) × AllCoordinated (store room.now) × ((q : ℕ) → q < partitions_max → AllTimely (store room.now) q) }
-    ensures { result ≡ refusal_of (store room.now) code a b c }
-{
+    let room = &SizedRoom::new(room);
+    // kept: codes as numbers, since they come from outside; here they become steps
     match code {
         1 => tick(room, a, b, Reading(c)),
         2 => start(room, a, b, c),
@@ -311,10 +302,10 @@ pub fn refusal(room: &[u64], code: u64, a: u64, b: u64, c: u64) -> u64
         8 => commit(room, TxNumber(a), b, c),
         9 => install(room, a, b, c),
         10 => deliver(room, a, b, c),
-        11 => server(room, a, b, c),
+        11 => report(room, a, b, c),
         12 => share(room, a, b, c),
-        13 => server(room, a, b, c),
+        13 => learn(room, a, b, c),
         14 => move_session(room, a, b, c),
-        _ => 3,
+        _ => Err(Refusal::NotThere),
     }
 }

@@ -6,7 +6,6 @@ ghost use Rattle.std.specs.Prelude.{◌≡◌};
 ghost use Rattle.lent.specs.Moves.{ticked_clock, committed_clock, committed_hybrid};
 
 use book::{Clock, Reading, Timestamp};
-use times::{larger, timestamp_of};
 
 fn ticked(mut c: Clock, x: Reading) -> Clock
     ensures { result ≡ ticked_clock c x }
@@ -19,8 +18,7 @@ fn ticked(mut c: Clock, x: Reading) -> Clock
 fn committed(mut c: Clock, time: Timestamp) -> Clock
     ensures { result ≡ committed_clock c time }
 {
-    let hybrid = c.hybrid;
-    c.hybrid = larger(hybrid, larger(time, timestamp_of(c.reading)));
+    c.hybrid = c.hybrid.max(time).max(Timestamp::from(c.reading));
     c
 }
 

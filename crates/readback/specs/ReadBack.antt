@@ -5,8 +5,7 @@ use native.Mathlib.Omega.{arith}
 use Rattle.std.proofs.Math.ListN.{length}
 use Rattle.std.proofs.Math.Seq.{drop-append_seam}
 use borrow.Author.Tests.{lt-ltb, le-leb, ltb-true, ltb-false, ne_eqb}
-use Rattle.scan.specs.declared.Number.TheVariants.{Value}
-use Rattle.scan.specs.Number.{digit, closing, grows, more, start, number_max, count_max, number_at, count_at}
+use Rattle.scan.specs.Number.{value, digit, closing, grows, more, start, number_max, count_max, number_at, count_at}
 use Rattle.ink.specs.Decimal.{decimal, digits}
 
 -- the bytes 48 to 57 are digits, close nothing, and can follow a number that is not 0
@@ -40,7 +39,7 @@ module _ (most : ℕ) (early : Bool) (from : ℕ) where
       rw (no_close d, can_grow v d h l, e, le-leb (v * 10 + d) most m)
 
   close : (end : ℕ) (rest : List ℕ) (at v : ℕ) → closing end ≡ true
-      → more most early from (end ∷ rest) at v ≡ Value v (record { at = at + 1 })
+      → more most early from (end ∷ rest) at v ≡ value v (at + 1)
   unfolding more
   close end rest at v e = rw e
 
@@ -67,7 +66,7 @@ module _ (most : ℕ) (early : Bool) (from : ℕ) where
 
   -- and the closing byte
   printed_start : (n end : ℕ) (rest : List ℕ) → n < 2 ^ 64 → n ≤ most → closing end ≡ true
-      → start most early from (digits n ++ (end ∷ rest)) ≡ Value n (record { at = from + length (digits n) + 1 })
+      → start most early from (digits n ++ (end ∷ rest)) ≡ value n (from + length (digits n) + 1)
   unfolding digits
   printed_start n end rest h m e = read_back 19 n (end ∷ rest) (omega arith) m ∙ close end rest (from + length (decimal 20 n)) n e
 
@@ -75,9 +74,9 @@ module _ (most : ℕ) (early : Bool) (from : ℕ) where
 -- as a step count likewise, up to 8,000.
 module _ (before : List ℕ) (n end : ℕ) (rest : List ℕ) (e : closing end ≡ true) where
   pub printed_read : n < 2 ^ 64
-      → number_at (before ++ (digits n ++ (end ∷ rest))) (length before) ≡ Value n (record { at = length before + length (digits n) + 1 })
+      → number_at (before ++ (digits n ++ (end ∷ rest))) (length before) ≡ value n (length before + length (digits n) + 1)
   printed_read h = rw (drop-append_seam before (digits n ++ (end ∷ rest))) (printed_start number_max false (length before) n end rest h (omega arith) e)
 
   pub printed_count : n ≤ count_max
-      → count_at (before ++ (digits n ++ (end ∷ rest))) (length before) ≡ Value n (record { at = length before + length (digits n) + 1 })
+      → count_at (before ++ (digits n ++ (end ∷ rest))) (length before) ≡ value n (length before + length (digits n) + 1)
   printed_count h = rw (drop-append_seam before (digits n ++ (end ∷ rest))) (printed_start count_max true (length before) n end rest (omega arith) h e)

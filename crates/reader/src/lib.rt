@@ -11,30 +11,14 @@ pub struct Reader<'a> {
     pub at: usize,
 }
 
-// The byte at a place, or the text's end.
-#[derive(Clone, Copy)]
-pub enum Sign {
-    Byte(u8),
-    End,
-}
-
-fn sign_at(text: &[u8], at: usize) -> Sign
-    ensures { result ≡ sign_at text.now at }
-{
-    if at < text.len() {
-        Sign::Byte(text[at])
-    } else {
-        Sign::End
-    }
-}
-
-pub fn peek<'a>(r: Reader<'a>) -> Sign
+// The byte at the reader's place, or none at the text's end.
+pub fn peek(r: Reader<'_>) -> Option<u8>
     ensures { result ≡ sign_at r.entry.text.now r.entry.at }
 {
-    sign_at(r.text, r.at)
+    r.text.get(r.at).copied()
 }
 
-pub fn peek_at(text: &[u8], at: usize) -> Sign
+pub fn peek_at(text: &[u8], at: usize) -> Option<u8>
     ensures { result ≡ sign_at text.now at }
 {
     peek(Reader { text, at })

@@ -2,16 +2,20 @@
 use Rattle.std.specs.Prelude.{ℕ, Bool, true, false, cond, ◌&&◌, not, ◌≡◌, refl, List, eqb}
 use Rattle.std.proofs.Math.Bool.{and-false}
 use Rattle.std.proofs.Common.{ap, ◌∙◌}
+use Rattle.std.specs.declared.option.Option.{Option}
+use Rattle.book.specs.declared.Clock.{Clock}
+use Rattle.book.specs.declared.Timestamp.{Timestamp}
 use Rattle.book.specs.Sizes.{places_max}
 use Rattle.book.specs.Cells.{Cell, Store, ◌⟨◌≔◌⟩, each2, each3, Reading, Hybrid, Entry, Held, State, installed}
 use Rattle.book.specs.Cases.{by_eq}
-use Rattle.book.specs.Sets.{set_of}
+use Rattle.book.specs.Sets.{set_of, size}
 use Rattle.book.specs.ReplicationSteps.{version_clock, hybrid_after, installs, number_installed, is_quiet, other_holder, sends_to, install}
 use Rattle.room.specs.Layout.{store}
 use Rattle.room.specs.Stretch.{held_all}
-use Rattle.clocks.specs.Clocks.{clock}
+use Rattle.clocks.specs.Clocks.{clock, clock_of}
 use Rattle.replication.specs.declared.Installation.{Installation}
-use Rattle.replication.specs.Installing.{marked, in_set}
+use Rattle.replication.specs.ClockAfter.{lowest_proposed, installed_clock, clock_after}
+use Rattle.replication.specs.Installing.{due, marked, size_set_of, in_set}
 use Rattle.replication.specs.Sending.{messages_to, messages}
 
 -- the transactions that pass held at server (h, p), and installed for p
@@ -47,6 +51,17 @@ outcome_of σ h p =
       number = number_installed σ h p;
       quiet = is_quiet σ h p;
     }
+
+-- by its parts: the clock before, the lowest proposed time, the clock after, the set, the number, whether it is quiet
+pub outcome_made : (σ : Store) (h p : ℕ) (b : Clock) (l : Option Timestamp) (x : Clock) (m n : ℕ) (q : Bool)
+    → b ≡ clock_of σ h p
+    → l ≡ lowest_proposed σ h p
+    → x ≡ installed_clock b l
+    → m ≡ set_of places_max (due σ h p x.version.0)
+    → n ≡ size m
+    → q ≡ (eqb n 0 && eqb x.version.0 b.version.0)
+    → record { clock = x; set = m; number = n; quiet = q } ≡ outcome_of σ h p
+outcome_made σ h p b l x m n q d e f g i j = rw (j, i, g, f, e, d, clock_after σ h p, size_set_of (installs σ h p))
 
 -- the server's stretch first, then the states, then the messages, unless it is quiet
 pub all_parts : (r : List ℕ) (h p : ℕ) (o : Installation) → o ≡ outcome_of (store r) h p

@@ -99,15 +99,19 @@ module _ (σ : Store) (h p c m : ℕ) where
       ∙ commute (Waiting 0 0 0).kind (ClockSent 0 0 0 0).kind _ _ _ _ _ refl
       ∙ ap (clocks (n + 1)) (commute (Waiting 0 0 0).kind (Carries 0 0 0 0).kind _ _ _ _ _ refl ∙ ap (sets (n + 1)) z)
 
+  -- a round that sends
+  pub sent_on : (n : ℕ) → other_holder σ h p n ≡ true → sent (sent_below n) h p n c m ≡ sent_below (n + 1)
+  sent_on n e = rw (same_waiting n) (sends n e)
+
   -- a round that sends nothing
-  skipped : (n : ℕ) → other_holder σ h p n ≡ false → sent_below n ≡ sent_below (n + 1)
+  pub skipped : (n : ℕ) → other_holder σ h p n ≡ false → sent_below n ≡ sent_below (n + 1)
   skipped n e =
       skips clock_row to (λ d. c) n (sets n (counts n σ)) e
       ∙ ap (clocks (n + 1)) (skips set_row to (λ d. m) n (counts n σ) e ∙ ap (sets (n + 1)) (skips count_row to one_more n σ e))
 
   -- a round
   pub sent_next : (n : ℕ) → sent_if (sent_below n) h p n c m ≡ sent_below (n + 1)
-  sent_next n = pick (other_holder σ h p n) _ _ _ (λ e. rw (same_waiting n) (sends n e)) (skipped n)
+  sent_next n = pick (other_holder σ h p n) _ _ _ (sent_on n) (skipped n)
 
 module _ (r : List ℕ) (h p c m : ℕ) where
   -- a room has no hall past its last

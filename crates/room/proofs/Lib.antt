@@ -2,3 +2,4 @@ pub mod Checked
 pub mod Words
 pub mod Lay
 pub mod StretchLaws
+pub mod Named

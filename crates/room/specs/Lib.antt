@@ -4,3 +4,4 @@ pub mod Lay
 pub mod Loops
 pub mod Bulk
 pub mod Stretch
+pub mod Named

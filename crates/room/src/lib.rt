@@ -1,84 +1,56 @@
-// The lent room: a word for each cell of the book, read and written by a kind of cell and its indices.
+// The lent room: a word for each cell of the book, read and written by the cell's name.
 #![tactic(auto)]
 
-ghost use Rattle.std.specs.Prelude.{◌≡◌, cond, ◌<◌, length};
-ghost use Rattle.book.specs.Cells.{cell, ◌⟨◌≔◌⟩};
-ghost use Rattle.room.specs.Layout.{size, step_i, step_j, step_k, at, Within, store};
+ghost use Rattle.std.specs.Prelude.{◌≡◌, ◌<◌};
+ghost use Rattle.book.specs.Cells.{◌⟨◌≔◌⟩};
+ghost use Rattle.room.specs.Layout.{size, at, store};
+ghost use Rattle.room.specs.Named.{cell_of};
 
-use book::{HALLS_MAX, KEYS_MAX, PARTITIONS_MAX, PLACES_MAX, SESSIONS_MAX, SLOTS_MAX};
+use book::{
+    HALLS_MAX, Hall, KEYS_MAX, Key, PARTITIONS_MAX, PLACES_MAX, Partition, Place, SESSIONS_MAX,
+    SLOTS_MAX, Server, Session, Slot,
+};
 
 pub mod stretch;
 
-// The kinds of cell, as the book numbers them.
-pub const HALLS: usize = 0;
-
-pub const PARTITIONS: usize = 1;
-
-pub const SESSIONS: usize = 2;
-
-pub const TRANSACTIONS: usize = 3;
-
-pub const MASK: usize = 4;
-
-pub const READING: usize = 5;
-
-pub const HYBRID: usize = 6;
-
-pub const STABLE: usize = 7;
-
-pub const ENTRY: usize = 8;
-
-pub const HELD: usize = 9;
-
-pub const HOME_HALL: usize = 10;
-
-pub const HOME_PARTITION: usize = 11;
-
-pub const STATUS: usize = 12;
-
-pub const SNAPSHOT: usize = 13;
-
-pub const LAST_COMMIT: usize = 14;
-
-pub const WRITE_SET: usize = 15;
-
-pub const READ_SET: usize = 16;
-
-pub const WRITE_VALUE: usize = 17;
-
-pub const READ_VALUE: usize = 18;
-
-pub const CACHE_VALUE: usize = 19;
-
-pub const CACHE_TIME: usize = 20;
-
-pub const BY: usize = 21;
-
-pub const FROM: usize = 22;
-
-pub const COMMIT_TIME: usize = 23;
-
-pub const KEY_SET: usize = 24;
-
-pub const VALUE: usize = 25;
-
-pub const STATE: usize = 26;
-
-pub const PROPOSED: usize = 27;
-
-pub const FIRST: usize = 28;
-
-pub const WAITING: usize = 29;
-
-pub const CLOCK_SENT: usize = 30;
-
-pub const CARRIES: usize = 31;
-
-pub const NOTE: usize = 32;
-
-pub const SHARED: usize = 33;
-
-const KINDS: usize = 34;
+// The cells, as the book names them.
+#[derive(Clone, Copy)]
+pub enum Cell {
+    Halls,
+    Partitions,
+    Sessions,
+    Transactions,
+    Mask(Hall),
+    Reading(Server),
+    Hybrid(Server),
+    Stable(Server),
+    Entry(Server, Hall),
+    Held(Server, Place),
+    HomeHall(Session),
+    HomePartition(Session),
+    Status(Session),
+    Snapshot(Session),
+    LastCommit(Session),
+    WriteSet(Session),
+    ReadSet(Session),
+    WriteValue(Session, Key),
+    ReadValue(Session, Key),
+    CacheValue(Session, Key),
+    CacheTime(Session, Key),
+    By(Place),
+    From(Place),
+    CommitTime(Place),
+    KeySet(Place),
+    Value(Place, Key),
+    State(Place, Partition),
+    Proposed(Place, Partition),
+    First(Server, Hall),
+    Waiting(Server, Hall),
+    ClockSent(Server, Hall, Slot),
+    Carries(Server, Hall, Slot),
+    Note(Server),
+    Shared(Hall, Hall),
+}
 
 // The words of the setup, of a server, a session, a transaction and a channel.
 const SETUP_WORDS: usize = 4 + HALLS_MAX;
@@ -111,132 +83,104 @@ const NOTES_AT: usize = CHANNELS_AT + HALLS_MAX * HALL_INBOX_WORDS;
 
 const SHARED_AT: usize = NOTES_AT + HALLS_MAX * PARTITIONS_MAX;
 
+// Where its hybrid clock, its entries and what it holds stand in a server's words.
+const HYBRID_AT: usize = 1;
+
+const ENTRIES_AT: usize = 3;
+
+const HELD_AT: usize = ENTRIES_AT + HALLS_MAX;
+
 // The words of a room.
 pub const SIZE: usize = SHARED_AT + HALLS_MAX * HALLS_MAX;
 
-// The word of a kind's first cell.
-const BASE: [usize; KINDS] = [
-    0,
-    1,
-    2,
-    3,
-    4,
-    SERVERS_AT,
-    SERVERS_AT + 1,
-    SERVERS_AT + 2,
-    SERVERS_AT + 3,
-    SERVERS_AT + 3 + HALLS_MAX,
-    SESSIONS_AT,
-    SESSIONS_AT + 1,
-    SESSIONS_AT + 2,
-    SESSIONS_AT + 3,
-    SESSIONS_AT + 4,
-    SESSIONS_AT + 5,
-    SESSIONS_AT + 6,
-    SESSIONS_AT + 7,
-    SESSIONS_AT + 7 + KEYS_MAX,
-    SESSIONS_AT + 7 + 2 * KEYS_MAX,
-    SESSIONS_AT + 7 + 3 * KEYS_MAX,
-    TRANSACTIONS_AT,
-    TRANSACTIONS_AT + 1,
-    TRANSACTIONS_AT + 2,
-    TRANSACTIONS_AT + 3,
-    TRANSACTIONS_AT + 4,
-    TRANSACTIONS_AT + 4 + KEYS_MAX,
-    TRANSACTIONS_AT + 4 + KEYS_MAX + PARTITIONS_MAX,
-    CHANNELS_AT,
-    CHANNELS_AT + 1,
-    CHANNELS_AT + 2,
-    CHANNELS_AT + 2 + SLOTS_MAX,
-    NOTES_AT,
-    SHARED_AT,
-];
+// A room is its words: their number is in the type.
+pub type Room = [u64; SIZE];
 
-// The words from one cell to the next by its first, second and third index.
-fn step_i(kind: usize) -> usize
-    ensures { result ≡ step_i kind }
+// The first word of a server, of a session, of a transaction, and of the channel to a server from a hall.
+#[inline(always)]
+fn server_at(s: Server) -> usize
+    ensures { result ≡ at (cell_of (Cell.Reading s)) }
 {
-    if kind < 5 {
-        1
-    } else if kind < 10 {
-        HALL_WORDS
-    } else if kind < 21 {
-        SESSION_WORDS
-    } else if kind < 28 {
-        TRANSACTION_WORDS
-    } else if kind < 32 {
-        HALL_INBOX_WORDS
-    } else if kind < 33 {
-        PARTITIONS_MAX
-    } else {
-        HALLS_MAX
+    SERVERS_AT + s.hall.index * HALL_WORDS + s.partition.index * SERVER_WORDS
+}
+
+#[inline(always)]
+fn session_at(s: Session) -> usize
+    ensures { result ≡ at (cell_of (Cell.HomeHall s)) }
+{
+    SESSIONS_AT + s.index * SESSION_WORDS
+}
+
+#[inline(always)]
+fn transaction_at(t: Place) -> usize
+    ensures { result ≡ at (cell_of (Cell.By t)) }
+{
+    TRANSACTIONS_AT + t.index * TRANSACTION_WORDS
+}
+
+#[inline(always)]
+fn channel_at(s: Server, f: Hall) -> usize
+    ensures { result ≡ at (cell_of (Cell.First s f)) }
+{
+    CHANNELS_AT
+        + s.hall.index * HALL_INBOX_WORDS
+        + s.partition.index * INBOX_WORDS
+        + f.index * CHANNEL_WORDS
+}
+
+// inlined always: at a cell that the caller names nothing is left of the match
+#[inline(always)]
+fn word_of(c: Cell) -> usize
+    ensures { (result ≡ at (cell_of c)) × (result < size) }
+{
+    match c {
+        Cell::Halls => 0,
+        Cell::Partitions => 1,
+        Cell::Sessions => 2,
+        Cell::Transactions => 3,
+        Cell::Mask(h) => 4 + h.index,
+        Cell::Reading(s) => server_at(s),
+        Cell::Hybrid(s) => server_at(s) + HYBRID_AT,
+        Cell::Stable(s) => server_at(s) + 2,
+        Cell::Entry(s, g) => server_at(s) + ENTRIES_AT + g.index,
+        Cell::Held(s, t) => server_at(s) + HELD_AT + t.index,
+        Cell::HomeHall(s) => session_at(s),
+        Cell::HomePartition(s) => session_at(s) + 1,
+        Cell::Status(s) => session_at(s) + 2,
+        Cell::Snapshot(s) => session_at(s) + 3,
+        Cell::LastCommit(s) => session_at(s) + 4,
+        Cell::WriteSet(s) => session_at(s) + 5,
+        Cell::ReadSet(s) => session_at(s) + 6,
+        Cell::WriteValue(s, k) => session_at(s) + 7 + k.index,
+        Cell::ReadValue(s, k) => session_at(s) + 7 + KEYS_MAX + k.index,
+        Cell::CacheValue(s, k) => session_at(s) + 7 + 2 * KEYS_MAX + k.index,
+        Cell::CacheTime(s, k) => session_at(s) + 7 + 3 * KEYS_MAX + k.index,
+        Cell::By(t) => transaction_at(t),
+        Cell::From(t) => transaction_at(t) + 1,
+        Cell::CommitTime(t) => transaction_at(t) + 2,
+        Cell::KeySet(t) => transaction_at(t) + 3,
+        Cell::Value(t, k) => transaction_at(t) + 4 + k.index,
+        Cell::State(t, p) => transaction_at(t) + 4 + KEYS_MAX + p.index,
+        Cell::Proposed(t, p) => transaction_at(t) + 4 + KEYS_MAX + PARTITIONS_MAX + p.index,
+        Cell::First(s, f) => channel_at(s, f),
+        Cell::Waiting(s, f) => channel_at(s, f) + 1,
+        Cell::ClockSent(s, f, n) => channel_at(s, f) + 2 + n.index,
+        Cell::Carries(s, f, n) => channel_at(s, f) + 2 + SLOTS_MAX + n.index,
+        Cell::Note(s) => NOTES_AT + s.hall.index * PARTITIONS_MAX + s.partition.index,
+        Cell::Shared(h, f) => SHARED_AT + h.index * HALLS_MAX + f.index,
     }
 }
 
-fn step_j(kind: usize) -> usize
-    ensures { result ≡ step_j kind }
+#[inline(always)]
+pub fn get(room: &Room, c: Cell) -> u64
+    ensures { result ≡ store room.now (cell_of c) }
 {
-    if kind < 5 {
-        1
-    } else if kind < 10 {
-        SERVER_WORDS
-    } else if kind < 28 {
-        1
-    } else if kind < 32 {
-        INBOX_WORDS
-    } else {
-        1
-    }
+    room[word_of(c)]
 }
 
-fn step_k(kind: usize) -> usize
-    ensures { result ≡ step_k kind }
+#[inline(always)]
+pub fn put(room: &mut Room, c: Cell, v: u64)
+    ensures { store room.new ≡ store room.old ⟨ cell_of c ≔ v ⟩ }
 {
-    if kind < 28 {
-        1
-    } else if kind < 32 {
-        CHANNEL_WORDS
-    } else {
-        1
-    }
-}
-
-fn place(kind: usize, i: usize, j: usize, k: usize, l: usize) -> usize
-    requires { Within (cell kind i j k l) }
-    ensures { (result ≡ at (cell kind i j k l)) × (result < size) }
-{
-    BASE[kind] + i * step_i(kind) + j * step_j(kind) + k * step_k(kind) + l
-}
-
-pub fn get(room: &[u64], kind: usize, i: usize, j: usize, k: usize, l: usize) -> u64
-    requires { (length room.now ≡ size) × Within (cell kind i j k l) }
-    ensures { result ≡ store room.now (cell kind i j k l) }
-{
-    room[place(kind, i, j, k, l)]
-}
-
-pub fn put(room: &mut [u64], kind: usize, i: usize, j: usize, k: usize, l: usize, v: u64)
-    requires { (length room.old ≡ size) × Within (cell kind i j k l) }
-    ensures { (length room.new ≡ size) × (store room.new ≡ store room.old ⟨ cell kind i j k l ≔ v ⟩) }
-{
-    room[place(kind, i, j, k, l)] = v;
-}
-
-// A round of a loop over cells: the cell is put, or left as it is.
-pub fn put_if(
-    room: &mut [u64],
-    test: bool,
-    kind: usize,
-    i: usize,
-    j: usize,
-    k: usize,
-    l: usize,
-    v: u64,
-)
-    requires { (length room.old ≡ size) × Within (cell kind i j k l) }
-    ensures { (length room.new ≡ size) × (store room.new ≡ store room.old ⟨ cell kind i j k l ≔ cond test v (store room.old (cell kind i j k l)) ⟩) }
-{
-    if test {
-        put(room, kind, i, j, k, l, v);
-    }
+    room[word_of(c)] = v;
 }

@@ -1,14 +1,23 @@
 -- What text reads as what number. "Decimal numbers up to 2^64 - 1, no extra leading zero, each followed by one space or line feed."
-use Rattle.std.specs.Prelude.{ℕ, ◌+◌, ◌-◌, ◌*◌, ◌^◌, ◌≤◌, Bool, true, false, cond, ◌&&◌, ◌||◌, not, ◌≡◌, refl, length, drop, eqb, leb}
+use Rattle.std.specs.Prelude.{ℕ, ◌+◌, ◌-◌, ◌*◌, ◌^◌, ◌≤◌, Bool, true, false, cond, ◌&&◌, ◌||◌, not, Result, Ok, Err, ◌≡◌, refl, length, drop, eqb, leb}
+use Rattle.std.specs.Option.{option_map_or}
 use Rattle.std.proofs.Math.Bool.{and-eq-true_iff}
 use mathlib.Core.List.{List, [], ◌∷◌}
-use Rattle.std.proofs.Math.Numerals.{add-one}
 use native.Mathlib.Omega.{arith}
-use Rattle.std.proofs.Common.{length-drop, drop_of_length-le, drop-cons, leb-true}
-use Rattle.reader.specs.declared.Sign.TheVariants.{Byte, End}
-use Rattle.reader.specs.Sign.{sign_at, byte_here, end_here}
-use Rattle.scan.specs.declared.Number.{Number}
-use Rattle.scan.specs.declared.Number.TheVariants.{Value, Bad}
+use Rattle.std.proofs.Common.{length-drop, leb-true}
+use Rattle.reader.specs.Sign.{sign_at, from_sign}
+use Rattle.scan.specs.declared.Cursor.{Cursor}
+use Rattle.scan.specs.declared.Bad.{Bad}
+
+-- what is read, with the place after its closing byte, or where the text is bad
+abbrev pub Read : Type 0 → Type 0
+Read T = Result (T × Cursor) Bad
+
+abbrev pub value : {T : Type 0} → T → ℕ → Read T
+value x at = Ok (x, record { at = at })
+
+abbrev pub bad : {T : Type 0} → ℕ → Result T Bad
+bad k = Err (record { 0 = k })
 
 -- the bytes `0` to `9`
 unfoldable pub digit : ℕ → Bool
@@ -31,18 +40,18 @@ joined v b = v * 10 + (b - 48)
 -- passes `most` it is the first digit's where `early`, and else that digit's.
 module _ (most : ℕ) (early : Bool) (from : ℕ) where
   -- the number whose digits so far have value v, and whose other bytes, from `at` on, are these
-  unfoldable pub more : List ℕ → ℕ → ℕ → Number
-  more [] at v = Bad at
+  unfoldable pub more : List ℕ → ℕ → ℕ → Read ℕ
+  more [] at v = bad at
   more (b ∷ bs) at v =
-      cond (closing b) (Value v (record { at = at + 1 }))
+      cond (closing b) (value v (at + 1))
       (cond (grows v b)
-      (cond (leb (joined v b) most) (more bs (at + 1) (joined v b)) (Bad (cond early from at)))
-      (Bad at))
+      (cond (leb (joined v b) most) (more bs (at + 1) (joined v b)) (bad (cond early from at)))
+      (bad at))
 
   -- the number whose bytes are these
-  unfoldable pub start : List ℕ → Number
-  start [] = Bad from
-  start (b ∷ bs) = cond (digit b) (more bs (from + 1) (b - 48)) (Bad from)
+  unfoldable pub start : List ℕ → Read ℕ
+  start [] = bad from
+  start (b ∷ bs) = cond (digit b) (more bs (from + 1) (b - 48)) (bad from)
 
 -- "up to 2^64 - 1"
 abbrev pub number_max : ℕ
@@ -52,35 +61,27 @@ number_max = 2 ^ 64 - 1
 abbrev pub count_max : ℕ
 count_max = 8000
 
-abbrev pub number_at : List ℕ → ℕ → Number
+abbrev pub number_at : List ℕ → ℕ → Read ℕ
 number_at text at = start number_max false at (drop at text)
 
 -- a step count
-abbrev pub count_at : List ℕ → ℕ → Number
+abbrev pub count_at : List ℕ → ℕ → Read ℕ
 count_at text at = start count_max true at (drop at text)
 
--- the same at a place of the whole text, where a reader finds a byte, and at its end
+-- the same at a place of the whole text, by what a reader finds there
 module _ (most : ℕ) (early : Bool) (from : ℕ) (text : List ℕ) where
-  pub more_end : (at v : ℕ) → sign_at text at ≡ End → more most early from (drop at text) at v ≡ Bad at
-  unfolding more
-  more_end at v e = rw (drop_of_length-le text (end_here text at e))
-
-  pub more_here : (at v b : ℕ) → sign_at text at ≡ Byte b → more most early from (drop at text) at v ≡
-      cond (closing b) (Value v (record { at = at + 1 }))
+  pub more_at : (at v : ℕ) → more most early from (drop at text) at v ≡ option_map_or (λ b.
+      cond (closing b) (value v (at + 1))
       (cond (grows v b)
-      (cond (leb (joined v b) most) (more most early from (drop (at + 1) text) (at + 1) (joined v b)) (Bad (cond early from at)))
-      (Bad at))
+      (cond (leb (joined v b) most) (more most early from (drop (at + 1) text) (at + 1) (joined v b)) (bad (cond early from at)))
+      (bad at))) (sign_at text at) (bad at)
   unfolding more
-  more_here at v b e = let h = byte_here text at b e in rw (drop-cons text at 0 h.0, h.1, add-one at)
+  more_at at v = from_sign text at (λ bs. more most early from bs at v)
 
-  pub start_end : sign_at text from ≡ End → start most early from (drop from text) ≡ Bad from
+  pub start_at : start most early from (drop from text) ≡ option_map_or (λ b.
+      cond (digit b) (more most early from (drop (from + 1) text) (from + 1) (b - 48)) (bad from)) (sign_at text from) (bad from)
   unfolding start
-  start_end e = rw (drop_of_length-le text (end_here text from e))
-
-  pub start_here : (b : ℕ) → sign_at text from ≡ Byte b → start most early from (drop from text) ≡
-      cond (digit b) (more most early from (drop (from + 1) text) (from + 1) (b - 48)) (Bad from)
-  unfolding start
-  start_here b e = let h = byte_here text from b e in rw (drop-cons text from 0 h.0, h.1, add-one from)
+  start_at = from_sign text from (start most early from)
 
 pub digit_facts : (b : ℕ) → digit b ≡ true → (48 ≤ b) × (b ≤ 57)
 unfolding digit
@@ -91,9 +92,9 @@ unfolding grows
 grows_digit v b e = ((and-eq-true_iff (not (eqb v 0)) _).0 e).1
 
 -- No number is past `most`, and no place past the end: of the text, or any place that covers the text and where the number starts.
-abbrev pub Within : ℕ → ℕ → Number → Type 0
-Within most end (Value n p) = (n ≤ most) × (p.at ≤ end)
-Within most end (Bad k) = k ≤ end
+abbrev pub Within : ℕ → ℕ → Read ℕ → Type 0
+Within most end (Ok x) = (x.0 ≤ most) × (x.1.at ≤ end)
+Within most end (Err k) = k.0 ≤ end
 
 pub either : {A : Type 0} (P : A → Type 0) (b : Bool) {x y : A} → (b ≡ true → P x) → P y → P (cond b x y)
 either P true h l = h refl

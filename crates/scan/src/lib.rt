@@ -1,213 +1,144 @@
 // Reading the script: each byte is taken by a reader (crates/reader), and the place in the text is a cursor by value.
 #![tactic(auto)]
 
-ghost use Rattle.std.specs.Prelude.{◌≡◌, true, cond, ◌*◌, ◌<◌, ◌≤◌, ◌^◌, leb, length, drop};
+ghost use Rattle.std.specs.Prelude.{◌≡◌, true, cond, ◌*◌, ◌≤◌, leb, length, drop};
 ghost use Rattle.std.proofs.lemmas.List.Edits.{sets};
-ghost use Rattle.scan.specs.Number.{digit, closing, grows, joined, start, number_at, count_at};
+ghost use Rattle.scan.specs.Number.{digit, joined, start, number_at, count_at};
 ghost use Rattle.scan.specs.Groups.{four_at, many_at};
-ghost use Rattle.scan.specs.Sections.{among, numbers_at, section_at};
+ghost use Rattle.scan.specs.Sections.{section_at};
+ghost use Rattle.scan.specs.declared.Stop.TheVariants.{Bad as BadSection};
 
-use reader::{Sign, peek_at};
+use reader::peek_at;
 
 // "a place in the lent text"
-#[derive(Clone, Copy)]
+#[derive(Clone, Copy, Debug, PartialEq, Eq)]
 pub struct Cursor {
     pub at: usize,
 }
 
-// A number with the place after its closing byte, or the offset of the first byte that can't stand there.
-#[derive(Clone, Copy)]
-pub enum Number {
-    Value(u64, Cursor),
-    Bad(usize),
+// "count at most 8,000"
+const COUNT_MAX: u64 = 8000;
+
+// The offset of the first byte that can't stand there.
+#[derive(Clone, Copy, Debug, PartialEq, Eq)]
+pub struct Bad(pub usize);
+
+// What is read, with the place after its closing byte.
+pub type Read<T> = Result<(T, Cursor), Bad>;
+
+// The four numbers of a step.
+#[derive(Clone, Copy, Debug, PartialEq, Eq)]
+pub struct Four {
+    pub code: u64,
+    pub x: u64,
+    pub y: u64,
+    pub z: u64,
 }
 
-// The four numbers of a step, likewise.
-#[derive(Clone, Copy)]
-pub enum Four {
-    Step(u64, u64, u64, u64, Cursor),
-    Bad(usize),
-}
-
-// Where reading several numbers ended, likewise.
-#[derive(Clone, Copy)]
-pub enum Many {
-    Next(Cursor),
-    Bad(usize),
-}
-
-// A section before the steps: how many numbers follow its count, with the place after them; a count outside its range; or bad text.
-#[derive(Clone, Copy)]
-pub enum Section {
-    Whole(usize, Cursor),
+// Why a section before the steps is not read: a count outside its range, or bad text.
+#[derive(Clone, Copy, Debug, PartialEq, Eq)]
+pub enum Stop {
     Outside,
-    Bad(usize),
+    Bad(Bad),
 }
 
-fn is_digit(b: u8) -> bool
-    ensures { result ≡ digit b }
-{
-    48 <= b && b <= 57
-}
+impl From<Bad> for Stop {
+    ghost from_gives = { λ bad stop. stop ≡ BadSection bad };
 
-// A space or a line feed.
-#[tactic(auto, unfolding(crate::specs::Number::closing))]
-fn closes(b: u8) -> bool
-    ensures { result ≡ closing b }
-{
-    b == 32 || b == 10
-}
-
-// Whether b is a digit that can follow digits of value v.
-fn can_grow(v: u64, b: u8) -> bool
-    ensures { result ≡ grows v b }
-{
-    v != 0 && is_digit(b)
-}
-
-// Whether v with the digit b after it is at most `most`, told without a number past 2^64 - 1.
-fn fits(v: u64, b: u8, most: u64) -> bool
-    requires { (digit b ≡ true) × (9 ≤ most) }
-    ensures { result ≡ leb (joined v b) most }
-{
-    if v > (most - (b - 48) as u64) / 10 {
-        return false;
+    fn from(bad: Bad) -> Stop {
+        Stop::Bad(bad)
     }
-    true
 }
 
-fn join(v: u64, b: u8) -> u64
-    requires { (digit b ≡ true) × (joined v b < 2 ^ 64) }
-    ensures { result ≡ joined v b }
+// v with the digit b after it, where that is at most `most`.
+#[tactic(auto, unfolding(crate::specs::Number::digit))]
+fn join(v: u64, b: u8, most: u64) -> Option<u64>
+    requires { digit b ≡ true }
+    ensures { result ≡ cond (leb (joined v b) most) (Some (joined v b)) None }
 {
-    v * 10 + (b - 48) as u64
-}
-
-fn pick(early: bool, from: usize, at: usize) -> usize
-    ensures { result ≡ cond early from at }
-{
-    if early { from } else { at }
+    v.checked_mul(10)?
+        .checked_add(u64::from(b - b'0'))
+        .filter(|v| *v <= most)
 }
 
 // A number at most `most`. Where it passes that, its first digit is bad (early), or else the digit that takes it past.
-fn read_up_to(text: &[u8], from: usize, most: u64, early: bool) -> Number
-    requires { 9 ≤ most }
+// kept: the place is counted by hand, since a reader takes each byte (docs/FORMS.md) and is no iterator.
+#[tactic(auto, using(crate::proofs::Reading::bytes), unfolding(crate::specs::Number::digit, crate::specs::Number::closing, crate::specs::Number::grows))]
+fn read_up_to(text: &[u8], from: usize, most: u64, early: bool) -> Read<u64>
     ensures { result ≡ start most early from (drop from text.now) }
 {
-    let Sign::Byte(first) = peek_at(text, from) else {
-        return Number::Bad(from);
+    let Some(first @ b'0'..=b'9') = peek_at(text, from) else {
+        return Err(Bad(from));
     };
-    if !is_digit(first) {
-        return Number::Bad(from);
-    }
-    let mut v = (first - 48) as u64;
+    let mut v = u64::from(first - b'0');
     let mut at = from + 1;
     loop {
-        let Sign::Byte(b) = peek_at(text, at) else {
-            return Number::Bad(at);
-        };
-        if closes(b) {
-            return Number::Value(v, Cursor { at: at + 1 });
+        match peek_at(text, at) {
+            Some(b' ' | b'\n') => return Ok((v, Cursor { at: at + 1 })),
+            Some(b @ b'0'..=b'9') if v != 0 => {
+                v = join(v, b, most).ok_or(Bad(if early { from } else { at }))?;
+                at += 1;
+            }
+            _ => return Err(Bad(at)),
         }
-        if !can_grow(v, b) {
-            return Number::Bad(at);
-        }
-        if !fits(v, b, most) {
-            return Number::Bad(pick(early, from, at));
-        }
-        v = join(v, b);
-        at += 1;
     }
 }
 
-pub fn read_number(text: &[u8], c: Cursor) -> Number
+pub fn read_number(text: &[u8], c: Cursor) -> Read<u64>
     ensures { result ≡ number_at text.now c.at }
 {
-    let at = c.at;
-    read_up_to(text, at, 18446744073709551615, false)
+    read_up_to(text, c.at, u64::MAX, false)
 }
 
 // A step count.
-pub fn read_count(text: &[u8], c: Cursor) -> Number
+pub fn read_count(text: &[u8], c: Cursor) -> Read<u64>
     ensures { result ≡ count_at text.now c.at }
 {
-    let at = c.at;
-    read_up_to(text, at, 8000, true)
+    read_up_to(text, c.at, COUNT_MAX, true)
 }
 
 // A step: code and three numbers.
-pub fn read_four(text: &[u8], c: Cursor) -> Four
+#[tactic(auto, unfolding(crate::specs::Groups::four_at))]
+pub fn read_four(text: &[u8], c: Cursor) -> Read<Four>
     ensures { result ≡ four_at text.now c.at }
 {
-    match read_number(text, c) {
-        Number::Bad(k) => Four::Bad(k),
-        Number::Value(code, p) => match read_number(text, p) {
-            Number::Bad(k) => Four::Bad(k),
-            Number::Value(x, q) => match read_number(text, q) {
-                Number::Bad(k) => Four::Bad(k),
-                Number::Value(y, s) => match read_number(text, s) {
-                    Number::Bad(k) => Four::Bad(k),
-                    Number::Value(z, next) => Four::Step(code, x, y, z, next),
-                },
-            },
-        },
-    }
+    let (code, c) = read_number(text, c)?;
+    let (x, c) = read_number(text, c)?;
+    let (y, c) = read_number(text, c)?;
+    let (z, c) = read_number(text, c)?;
+    Ok((Four { code, x, y, z }, c))
 }
 
-// n numbers, stored from the front of `into` on as they are read: masks, homes.
-pub fn read_many(text: &[u8], c: Cursor, n: usize, into: &mut [u64]) -> Many
-    requires { n ≤ length into.old }
-    ensures { (into.new ≡ sets into.old 0 (many_at n text.now c.at).got)
-        × (result ≡ (many_at n text.now c.at).end) }
+// As many numbers as `into` holds, stored there as they are read: masks, homes.
+#[tactic(auto, using(crate::proofs::Reading::turns))]
+pub fn read_many(text: &[u8], mut c: Cursor, into: &mut [u64]) -> Result<Cursor, Bad>
+    ensures into { into.new ≡ sets into.old 0 (many_at (length into.old) text.now c.at).got }
+    ensures result { result ≡ (many_at (length into.old) text.now c.at).end }
 {
-    let mut at = c.at;
-    let mut i = 0;
-    while i < n {
-        match read_number(text, Cursor { at }) {
-            Number::Bad(k) => {
-                return Many::Bad(k);
-            }
-            Number::Value(v, next) => {
-                into[i] = v;
-                at = next.at;
-                i += 1;
-            }
-        }
+    for number in into.iter_mut() {
+        (*number, c) = read_number(text, c)?;
     }
-    Many::Next(Cursor { at })
-}
-
-// Whether a count is 1 to `most`.
-fn counts(n: u64, most: u64) -> bool
-    ensures { result ≡ among most n }
-{
-    1 <= n && n <= most
-}
-
-// What follows a count of n.
-fn read_counted(text: &[u8], c: Cursor, n: u64, most: u64, each: usize, into: &mut [u64]) -> Section
-    requires { most * each ≤ length into.old }
-    ensures { (into.new ≡ sets into.old 0 (numbers_at most each n text.now c.at).got)
-        × (result ≡ (numbers_at most each n text.now c.at).end) }
-{
-    if !counts(n, most) {
-        return Section::Outside;
-    }
-    let m = n as usize * each;
-    match read_many(text, c, m, into) {
-        Many::Bad(k) => Section::Bad(k),
-        Many::Next(next) => Section::Whole(m, next),
-    }
+    Ok(c)
 }
 
 // A count, and `each` numbers for each of these, stored from the front of `into` on: halls, sessions.
-pub fn read_section(text: &[u8], c: Cursor, most: u64, each: usize, into: &mut [u64]) -> Section
+#[tactic(auto, using(crate::proofs::Reading::parts), unfolding(crate::specs::Sections::among, crate::specs::Sections::numbers_at, crate::specs::Sections::section_at))]
+pub fn read_section(
+    text: &[u8],
+    c: Cursor,
+    most: usize,
+    each: usize,
+    into: &mut [u64],
+) -> Result<(usize, Cursor), Stop>
     requires { most * each ≤ length into.old }
-    ensures { (into.new ≡ sets into.old 0 (section_at most each text.now c.at).got)
-        × (result ≡ (section_at most each text.now c.at).end) }
+    ensures into { into.new ≡ sets into.old 0 (section_at most each text.now c.at).got }
+    ensures result { result ≡ (section_at most each text.now c.at).end }
 {
-    match read_number(text, c) {
-        Number::Bad(k) => Section::Bad(k),
-        Number::Value(n, p) => read_counted(text, p, n, most, each, into),
+    let (n, c) = read_number(text, c)?;
+    if !(1..=most as u64).contains(&n) {
+        return Err(Stop::Outside);
     }
+    let count = n as usize * each;
+    let c = read_many(text, c, &mut into[..count])?;
+    Ok((count, c))
 }

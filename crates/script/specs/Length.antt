@@ -1,19 +1,16 @@
 -- How long a printout is at most.
 use Prim.Native.Nat.{ℕ, zero, suc, ◌+◌, ◌*◌, ◌%◌, ◌<◌, ◌≤◌}
-use Rattle.std.specs.Prelude.{cond, ◌&&◌, ◌≡◌, refl, ltb}
+use Rattle.std.specs.Prelude.{cond, ◌&&◌, Ok, Err, ltb}
 use mathlib.Core.List.{List, []}
 use Rattle.std.proofs.Common.{⊎_elim, le_refl, ltb-false}
 use native.Mathlib.Omega.{arith}
 use Rattle.std.proofs.Math.Dec.{eqb}
 use Rattle.std.proofs.Math.ListN.{length, length-append}
 use Rattle.scan.specs.declared.Cursor.{Cursor}
-use Rattle.scan.specs.declared.Four.{Four}
-use Rattle.scan.specs.declared.Four.TheVariants.{Step, Bad as BadFour}
-use Rattle.scan.specs.declared.Section.{Section}
-use Rattle.scan.specs.declared.Section.TheVariants.{Whole, Outside, Bad as BadSection}
+use Rattle.scan.specs.declared.Stop.TheVariants.{Outside, Bad as BadSection}
 use Rattle.scan.specs.Number.{count_max, count_at, either, count_within}
-use Rattle.scan.specs.Groups.{on_four, by_number, four_at, four_within}
-use Rattle.scan.specs.Sections.{on_section, section_at, SectionWithin, section_within}
+use Rattle.scan.specs.Groups.{by_read, four_at, four_within}
+use Rattle.scan.specs.Sections.{Section, on_section, section_at, SectionWithin, section_within}
 use Rattle.ink.specs.Decimal.{line_max, script_max}
 use Rattle.ink.proofs.Decimal.{length_line, length_script}
 use Rattle.ink.specs.Written.{Fits}
@@ -45,16 +42,11 @@ Short m o = length o.bytes ≤ m
 
 -- what holds in each case holds
 module _ (P : Outcome → Type 0) where
-  pub by_four : (x : Four) {f : ℕ → Outcome} {g : ℕ → ℕ → ℕ → ℕ → Cursor → Outcome} → ((k : ℕ) → x ≡ BadFour k → P (f k))
-      → ((code a b c : ℕ) (p : Cursor) → x ≡ Step code a b c p → P (g code a b c p)) → P (on_four x f g)
-  by_four (BadFour k) h l = h k refl
-  by_four (Step code a b c p) h l = l code a b c p refl
-
   by_section : (most end : ℕ) (xs : List ℕ) (x : Section) {f : ℕ → Outcome} {o : Outcome} {g : ℕ → Cursor → Outcome} → SectionWithin most end xs x
       → ((k : ℕ) → k ≤ end → P (f k)) → P o → ((n : ℕ) (p : Cursor) → p.at ≤ end → P (g n p)) → P (on_section x f o g)
-  by_section most end xs (BadSection k) w h i l = h k w
-  by_section most end xs Outside w h i l = i
-  by_section most end xs (Whole n p) w h i l = l n p w.2
+  by_section most end xs (Err (BadSection k)) w h i l = h k.0 w
+  by_section most end xs (Err Outside) w h i l = i
+  by_section most end xs (Ok y) w h i l = l y.0 y.1 w.2
 
 refused_short : (σ : Store) → Short capacity (refused σ)
 refused_short σ = omega (arith, length_line 0 2 0 0 (omega arith) (omega arith))
@@ -69,24 +61,25 @@ module _ (text : List ℕ) (fits : length text ≤ text_max) where
       either (Short script_max) (ltb at (length text)) (λ _. stop_short script_max σ (omega arith) at l) (omega arith)
   steps_short (suc n) i at σ h l =
       let m = suc n * line_max + script_max in
-      by_four (Short m) (four_at text at)
+      by_read (Short m) (four_at text at)
       (λ k e. stop_short m σ (omega arith) k (rw e at (four_within text (length text) (le_refl _) at l)))
-      (λ code a b c p e.
-      let x = numbers (answer σ code a b c) in
+      (λ (four, p) e.
+      let x = numbers (answer σ four.code four.x four.y four.z) in
+      let τ = after σ four.code four.x four.y four.z in
       omega (
         arith,
-        length-append (line_of i x) (steps_from n (i + 1) text p.at (after σ code a b c)).bytes,
-        length_line i x.refusal x.first x.second (omega arith) (step_small σ code a b c),
-        steps_short n (i + 1) p.at (after σ code a b c) (omega arith) (rw e at (four_within text (length text) (le_refl _) at l)),
+        length-append (line_of i x) (steps_from n (i + 1) text p.at τ).bytes,
+        length_line i x.refusal x.first x.second (omega arith) (step_small σ four.code four.x four.y four.z),
+        steps_short n (i + 1) p.at τ (omega arith) (rw e at (four_within text (length text) (le_refl _) at l)),
       ))
 
   counted_short : (at : ℕ) (σ : Store) → at ≤ length text → Short (count_max * line_max + script_max) (counted_from text at σ)
   unfolding counted_from
   counted_short at σ l =
       let m = count_max * line_max + script_max in
-      by_number (Short m) (count_at text at)
+      by_read (Short m) (count_at text at)
       (λ k e. stop_short m σ (omega arith) k (rw e at (count_within text (length text) (le_refl _) at l)))
-      (λ n p e. let w : (n ≤ count_max) × (p.at ≤ length text) = rw e at (count_within text (length text) (le_refl _) at l) in
+      (λ (n, p) e. let w : (n ≤ count_max) × (p.at ≤ length text) = rw e at (count_within text (length text) (le_refl _) at l) in
       omega (arith, steps_short n 1 p.at σ (omega arith) w.1))
 
   setup_short : (masks homes : List ℕ) (at : ℕ) (σ : Store) → at ≤ length text → Short capacity (setup_from masks homes text at σ)

@@ -1,12 +1,11 @@
 -- "Script and printout": what every text prints, and the store it leaves.
-use Rattle.std.specs.Prelude.{ℕ, zero, suc, ◌+◌, ◌-◌, ◌%◌, ◌<◌, cond, ◌&&◌, List, [], ◌++◌, ◌≡◌, refl, eqb, ltb, length}
+use Rattle.std.specs.Prelude.{ℕ, zero, suc, ◌+◌, ◌-◌, ◌%◌, ◌<◌, cond, ◌&&◌, List, [], ◌++◌, Ok, Err, ◌≡◌, refl, eqb, ltb, length}
 use Rattle.std.proofs.Common.{not-suc-le-zero, sub-one}
 use Rattle.scan.specs.declared.Cursor.{Cursor}
-use Rattle.scan.specs.declared.Section.{Section}
-use Rattle.scan.specs.declared.Section.TheVariants.{Whole, Outside, Bad as BadSection}
+use Rattle.scan.specs.declared.Stop.TheVariants.{Outside, Bad as BadSection}
 use Rattle.scan.specs.Number.{count_at}
-use Rattle.scan.specs.Groups.{on_number, on_four, four_at}
-use Rattle.scan.specs.Sections.{on_section, section_at}
+use Rattle.scan.specs.Groups.{on_read, four_at}
+use Rattle.scan.specs.Sections.{Section, on_section, section_at}
 use Rattle.ink.specs.Decimal.{decimal, digits, line, script}
 use Rattle.book.specs.Sizes.{halls_max, sessions_max}
 use Rattle.book.specs.Cells.{Store}
@@ -50,12 +49,13 @@ refused σ = only (line_of 0 (triple 2 0 0)) σ
 unfoldable pub steps_from : ℕ → ℕ → List ℕ → ℕ → Store → Outcome
 steps_from zero i text at σ = cond (ltb at (length text)) (stop σ at) (only [] σ)
 steps_from (suc n) i text at σ =
-    on_four (four_at text at) (stop σ) (λ code a b c next.
-    before (line_of i (numbers (answer σ code a b c))) (steps_from n (i + 1) text next.at (after σ code a b c)))
+    on_read (four_at text at) (stop σ) (λ (four, next).
+    before (line_of i (numbers (answer σ four.code four.x four.y four.z)))
+    (steps_from n (i + 1) text next.at (after σ four.code four.x four.y four.z)))
 
 -- "steps (four numbers each, count at most 8,000)"
 unfoldable pub counted_from : List ℕ → ℕ → Store → Outcome
-counted_from text at σ = on_number (count_at text at) (stop σ) (λ n p. steps_from n 1 text p.at σ)
+counted_from text at σ = on_read (count_at text at) (stop σ) (λ (n, p). steps_from n 1 text p.at σ)
 
 -- "Setup runs once the sessions are read, before the step count."; "a refused setup prints `0 2 0 0` and stops": its own line, and nothing after it
 unfoldable pub setup_from : List ℕ → List ℕ → List ℕ → ℕ → Store → Outcome
@@ -81,8 +81,9 @@ outcome text σ = cond (ltb text_max (length text)) (stop σ text_max) (halls_fr
 
 -- for the code: one turn of the steps, their end, and the other definitions opened
 pub steps_turn : (n i : ℕ) (text : List ℕ) (at : ℕ) (σ : Store) → 0 < n → steps_from n i text at σ ≡
-    on_four (four_at text at) (stop σ) (λ code a b c next.
-    before (line_of i (numbers (answer σ code a b c))) (steps_from (n - 1) (i + 1) text next.at (after σ code a b c)))
+    on_read (four_at text at) (stop σ) (λ (four, next).
+    before (line_of i (numbers (answer σ four.code four.x four.y four.z)))
+    (steps_from (n - 1) (i + 1) text next.at (after σ four.code four.x four.y four.z)))
 unfolding steps_from
 steps_turn zero i text at σ h = absurd (not-suc-le-zero h)
 steps_turn (suc n) i text at σ h = rw (sub-one (suc n))
@@ -93,7 +94,7 @@ unfolding steps_from
 steps_end n i text at σ h = rw h
 
 pub counted_is : (text : List ℕ) (at : ℕ) (σ : Store)
-    → counted_from text at σ ≡ on_number (count_at text at) (stop σ) (λ n p. steps_from n 1 text p.at σ)
+    → counted_from text at σ ≡ on_read (count_at text at) (stop σ) (λ (n, p). steps_from n 1 text p.at σ)
 unfolding counted_from
 counted_is text at σ = refl
 
@@ -122,9 +123,9 @@ setup_refused masks homes text at σ h =
 module _ (σ τ : Store) where
   section_same : (x : Section) (g : Store → ℕ → Cursor → Outcome) → ((n : ℕ) (p : Cursor) → (g σ n p).bytes ≡ (g τ n p).bytes)
       → (on_section x (stop σ) (refused σ) (g σ)).bytes ≡ (on_section x (stop τ) (refused τ) (g τ)).bytes
-  section_same (BadSection k) g h = refl
-  section_same Outside g h = refl
-  section_same (Whole n p) g h = h n p
+  section_same (Err (BadSection k)) g h = refl
+  section_same (Err Outside) g h = refl
+  section_same (Ok x) g h = h x.0 x.1
 
   setup_same : (masks homes text : List ℕ) (at : ℕ) → (setup_from masks homes text at σ).bytes ≡ (setup_from masks homes text at τ).bytes
   unfolding setup_from

@@ -1,12 +1,11 @@
 -- The store that a text leaves: the one before it, or one reached from the text's setup by its steps.
-use Rattle.std.specs.Prelude.{ℕ, zero, suc, ◌+◌, List, ◌≡◌, refl, ◌⊎◌, ltb, length}
+use Rattle.std.specs.Prelude.{ℕ, zero, suc, ◌+◌, List, Ok, Err, ◌≡◌, refl, ◌⊎◌, ltb, length}
 use Rattle.std.proofs.Common.{inl, inr}
 use Rattle.scan.specs.declared.Cursor.{Cursor}
-use Rattle.scan.specs.declared.Section.{Section}
-use Rattle.scan.specs.declared.Section.TheVariants.{Whole, Outside, Bad as BadSection}
+use Rattle.scan.specs.declared.Stop.TheVariants.{Outside, Bad as BadSection}
 use Rattle.scan.specs.Number.{count_at}
-use Rattle.scan.specs.Groups.{by_number, four_at}
-use Rattle.scan.specs.Sections.{on_section, section_at}
+use Rattle.scan.specs.Groups.{by_read, four_at}
+use Rattle.scan.specs.Sections.{Section, on_section, section_at}
 use Rattle.book.specs.Sizes.{halls_max, sessions_max}
 use Rattle.book.specs.Cells.{Store}
 use Rattle.book.specs.Cases.{choose, by_test, by_eq}
@@ -14,7 +13,6 @@ use Rattle.book.specs.Setup.{first_store, setup_refusal}
 use Rattle.book.specs.Steps.{after}
 use Rattle.book.specs.Reached.{Reached}
 use Rattle.script.specs.Printout.{Outcome, text_max, stop, refused, steps_from, counted_from, setup_from, sessions_from, halls_from, outcome}
-use Rattle.script.specs.Length.{by_four}
 
 abbrev Reaches : Outcome → Type 0
 Reaches o = Reached o.store
@@ -23,13 +21,13 @@ steps_reached : (n i : ℕ) (text : List ℕ) (at : ℕ) (σ : Store) → Reache
 unfolding steps_from
 steps_reached zero i text at σ R = choose Reaches (ltb at (length text)) R R
 steps_reached (suc n) i text at σ R =
-    by_four Reaches (four_at text at)
+    by_read Reaches (four_at text at)
     (λ k e. R)
-    (λ code a b c p e. steps_reached n (i + 1) text p.at (after σ code a b c) (Reached.onward R code a b c))
+    (λ (four, p) e. steps_reached n (i + 1) text p.at (after σ four.code four.x four.y four.z) (Reached.onward R four.code four.x four.y four.z))
 
 counted_reached : (text : List ℕ) (at : ℕ) (σ : Store) → Reached σ → Reaches (counted_from text at σ)
 unfolding counted_from
-counted_reached text at σ R = by_number Reaches (count_at text at) (λ k e. R) (λ n p e. steps_reached n 1 text p.at σ R)
+counted_reached text at σ R = by_read Reaches (count_at text at) (λ k e. R) (λ (n, p) e. steps_reached n 1 text p.at σ R)
 
 module _ (σ : Store) where
   abbrev Leaves : Outcome → Type 0
@@ -43,9 +41,9 @@ module _ (σ : Store) where
       (λ q f. rw f (inl refl))
 
   section_leaves : (x : Section) (g : ℕ → Cursor → Outcome) → ((n : ℕ) (p : Cursor) → Leaves (g n p)) → Leaves (on_section x (stop σ) (refused σ) g)
-  section_leaves (BadSection k) g h = inl refl
-  section_leaves Outside g h = inl refl
-  section_leaves (Whole n p) g h = h n p
+  section_leaves (Err (BadSection k)) g h = inl refl
+  section_leaves (Err Outside) g h = inl refl
+  section_leaves (Ok x) g h = h x.0 x.1
 
   sessions_leave : (masks text : List ℕ) (at : ℕ) → Leaves (sessions_from masks text at σ)
   unfolding sessions_from

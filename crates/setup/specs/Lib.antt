@@ -1,4 +1,5 @@
 pub mod SetUp
 pub mod Rows
+pub mod Numbers
 pub mod Copies
 pub mod Laid

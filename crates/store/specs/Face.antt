@@ -5,8 +5,12 @@ use Rattle.book.specs.declared.Answer.{Answer}
 use Rattle.book.specs.declared.Answer.TheVariants.{Refused}
 use Rattle.book.specs.Cells.{Store}
 use Rattle.book.specs.Cases.{by_test, and_true}
-use Rattle.book.specs.Steps.{rule_of, refusal, after, answer, refused_unchanged}
+use Rattle.book.specs.declared.Step.{Step}
+use Rattle.ladders.specs.Checked.{numbers_of}
+use Rattle.book.specs.Steps.{Rule, rule_of, refusal, after, answer, refused_unchanged}
 use Rattle.book.specs.WellFormed.{well_formed}
+use Rattle.bounds.proofs.WellFormedKept.{well_formed_kept}
+use Rattle.store.specs.Granted.{sized, coordinated_all, timely}
 use Rattle.room.specs.Layout.{size, store}
 use Rattle.room.specs.Lay.{lay}
 use Rattle.room.proofs.Lay.{length_lay, lay_store, onto}
@@ -25,6 +29,10 @@ step_room r code a b c = cond (sound r) (lay (after (store r) code a b c)) r
 -- cell for cell
 abbrev pub step_store : List ℕ → ℕ → ℕ → ℕ → ℕ → Store
 step_store r code a b c = cond (sound r) (after (store r) code a b c) (store r)
+
+-- the rule of a step, at the numbers that name it
+abbrev pub rule_at : Store → Step → Rule
+rule_at σ step = let n = numbers_of step in rule_of σ n.0 n.1 n.2 n.3
 
 -- what the public step promises of its answer x and of the room late that it leaves: its words, and the store that they are read as
 pub record Stepped (r : List ℕ) (code a b c : ℕ) (x : Answer) (late : List ℕ) : Type 0 where
@@ -67,6 +75,24 @@ pub taken : (σ : Store) (code a b c : ℕ) → refusal σ code a b c ≡ 0
     → ((rule_of σ code a b c).answer ≡ answer σ code a b c) × ((rule_of σ code a b c).after ≡ after σ code a b c)
 unfolding answer after
 taken σ code a b c e = (rw (eq-eqb (refusal σ code a b c) 0 e), rw (eq-eqb (refusal σ code a b c) 0 e))
+
+-- a step that these numbers name, where it is taken: what its rule gives is what these numbers give
+module _ (σ : Store) (code a b c : ℕ) (step : Step) (n : numbers_of step ≡ (code, a, b, c)) (e : refusal σ code a b c ≡ 0) where
+  pub named_taken : (rule_at σ step).refusal ≡ 0
+  unfolding refusal
+  named_taken = rw n e
+
+  pub named_answer : (rule_at σ step).answer ≡ answer σ code a b c
+  named_answer = rw n (taken σ code a b c e).0
+
+  pub named_after : (rule_at σ step).after ≡ after σ code a b c
+  named_after = rw n (taken σ code a b c e).1
+
+  pub named_formed : well_formed σ ≡ true → well_formed (rule_at σ step).after ≡ true
+  named_formed w = rw named_after (well_formed_kept σ code a b c w)
+
+-- what the inner step is proved by
+pub ruleset inner = (sized, coordinated_all, timely, away_answer, away_store, named_taken, named_answer, named_after, named_formed)
 
 -- the inner step's promise is the public one's, where the room is sound
 pub moved_stepped : {r : List ℕ} {code a b c : ℕ} {x : Answer} {late : List ℕ} → sound r ≡ true → Inner r code a b c x late → Stepped r code a b c x late

@@ -17,7 +17,7 @@ use Rattle.views.specs.Partitions.{Parted}
 use Rattle.sessions.specs.Starting.{Homed}
 use Rattle.servers.specs.Numbers.{Numbered}
 use Rattle.commits.specs.Safe.{Coordinated, Timely, Writing}
-use Rattle.replication.specs.Safe.{AllCoordinated, Channel, AllTimely}
+use Rattle.replication.specs.Safe.{AllCoordinated, Channel, Outgoing, AllTimely}
 
 module _ (σ : Store) (w : well_formed σ ≡ true) where
   facts : Formed σ
@@ -35,7 +35,7 @@ module _ (σ : Store) (w : well_formed σ ≡ true) where
   server : (h p : ℕ) → holds σ h p ≡ true → (h < halls_max) × (p < partitions_max)
   server = server_small σ laid
 
-  parted : Parted σ
+  pub parted : Parted σ
   parted = (sized.some, sized.partitions)
 
   session : (s : ℕ) → s < σ Sessions → s < sessions_max
@@ -69,8 +69,23 @@ module _ (σ : Store) (w : well_formed σ ≡ true) where
   end_in s y z e = let f = end_facts σ s y z e in (session s f.there, parted, f.room)
 
   -- the transaction at place t comes from one of the halls
-  coordinated : (t : ℕ) → t < places_max → Coordinated σ t
+  pub coordinated : (t : ℕ) → t < places_max → Coordinated σ t
   coordinated t l = record { halls = sized.halls; from = facts.hall t l }
+
+  -- and from one of the sessions
+  by : (t : ℕ) → t < places_max → σ (By t) < sessions_max
+  by t l = le_trans (facts.session t l) sized.sessions
+
+  pub timely_at : (t p : ℕ) → t < places_max → p < partitions_max → Timely σ t p
+  timely_at t p l i = record {
+    session = by t l;
+    last = times.last (σ (By t)) (by t l);
+    snapshot = times.snapshot (σ (By t)) (by t l);
+    hybrid = λ h j. times.hybrid h p j i;
+  }
+
+  pub writing : (t : ℕ) → t < places_max → Writing σ t
+  writing t l = record { session = by t l; key_set = facts.keys t l }
 
   place : (n : ℕ) → Numbered n → place_of n < places_max
   place n N = let a = N.first in let b = N.last in omega arith
@@ -82,29 +97,13 @@ module _ (σ : Store) (w : well_formed σ ≡ true) where
       let N = number n f.first f.there in
       let P = partition p f.partition in
       let l = place n N in
-      let T = times in
-      let a = facts.session (place_of n) l in
-      let b = sized.sessions in
-      let s : σ (By (place_of n)) < sessions_max = omega arith in (
-        N,
-        P,
-        coordinated (place_of n) l,
-        record {
-          session = s;
-          last = T.last (σ (By (place_of n))) s;
-          snapshot = T.snapshot (σ (By (place_of n))) s;
-          hybrid = λ h i. T.hybrid h p i P;
-        },
-      )
+      (N, P, coordinated (place_of n) l, timely_at (place_of n) p l P)
 
   pub decide_in : (n y z : ℕ) → decide_refusal σ n y z ≡ 0 → Numbered n × Writing σ (place_of n)
   decide_in n y z e =
       let f = decide_facts σ n y z e in
       let N = number n f.first f.there in
-      let l = place n N in
-      let a = facts.session (place_of n) l in
-      let b = sized.sessions in
-      (N, record { session = omega arith; key_set = facts.keys (place_of n) l })
+      (N, writing (place_of n) (place n N))
 
   pub commit_in : (n p z : ℕ) → commit_refusal σ n p z ≡ 0 → Numbered n × (p < partitions_max) × Coordinated σ (place_of n)
   commit_in n p z e =
@@ -128,6 +127,9 @@ module _ (σ : Store) (w : well_formed σ ≡ true) where
   pub channel : (g p f : ℕ) → g < halls_max → p < partitions_max → f < halls_max → Channel σ g p f
   channel g p f a b c = record { first = facts.first g p f a b c; waiting = facts.waiting g p f a b c }
 
+  pub outgoing : (h p : ℕ) → h < halls_max → p < partitions_max → Outgoing σ h p
+  outgoing h p i j = record { channels = λ g l. channel g p h l j i }
+
   pub share_in : (f to z : ℕ) → share_refusal σ f to z ≡ 0 → (f < halls_max) × (to < halls_max)
   share_in f to z e = let w = share_facts σ f to z e in (le_trans w.sender sized.halls, le_trans w.receiver sized.halls)
 
@@ -141,3 +143,5 @@ module _ (σ : Store) (w : well_formed σ ≡ true) where
 
   pub move_in : (s h p : ℕ) → move_refusal σ s h p ≡ 0 → s < sessions_max
   move_in s h p e = session s (move_facts σ s h p e).there
+
+pub ruleset steps = (start_in, parted, coordinated, coordinated_all, timely, outgoing)

@@ -1,57 +1,59 @@
 // The store's face: a step, for any room and any four numbers.
 #![tactic(auto)]
 
-ghost use Rattle.std.specs.Prelude.{true, ◌≡◌, length};
+ghost use Rattle.std.specs.Prelude.{true, ◌≡◌};
 ghost use Rattle.book.specs.WellFormed.{well_formed};
-ghost use Rattle.book.specs.Steps.{rule_of, refusal};
-ghost use Rattle.room.specs.Layout.{size, store};
-ghost use Rattle.store.specs.Face.{Stepped, Inner};
+ghost use Rattle.room.specs.Layout.{store};
+ghost use Rattle.store.specs.Face.{rule_at, Stepped, Inner};
 
-use book::{Answer, Reading, TxNumber};
+use book::{Answer, Refusal, Step};
+use room::{Room, SIZE};
 
-// The step with this code, for numbers that its ladder has let through.
-fn act(room: &mut [u64], code: u64, a: u64, b: u64, c: u64) -> Answer
-    requires { (length room.old ≡ size) × (well_formed (store room.old) ≡ true) × (refusal (store room.old) code a b c ≡ 0) }
-    ensures { (length room.new ≡ size) × (result ≡ (rule_of (store room.old) code a b c).answer) × (store room.new ≡ (rule_of (store room.old) code a b c).after) }
+// A step that its ladder has let through.
+#[tactic(auto, using(crate::specs::Granted::steps), unfolding(book::specs::Steps::rule_of))]
+fn act(room: &mut Room, step: Step) -> Answer
+    requires formed { well_formed (store room.old) ≡ true }
+    requires taken { (rule_at (store room.old) step).refusal ≡ 0 }
+    ensures { (result ≡ (rule_at (store room.old) step).answer) × (store room.new ≡ (rule_at (store room.old) step).after) }
 {
-    match code {
-        1 => clocks::tick(room, a as usize, b as usize, Reading(c)),
-        2 => sessions::start(room, a as usize),
-        3 => sessions::read(room, a as usize, b as usize, c as usize),
-        4 => sessions::write(room, a as usize, b as usize, c),
-        5 => sessions::end(room, a as usize),
-        6 => commits::prepare(room, TxNumber(a), b as usize),
-        7 => commits::decide(room, TxNumber(a)),
-        8 => commits::commit(room, TxNumber(a), b as usize),
-        9 => replication::install(room, a as usize, b as usize),
-        10 => replication::deliver(room, a as usize, b as usize, c as usize),
-        11 => gossip::report(room, a as usize, b as usize),
-        12 => gossip::share(room, a as usize, b as usize),
-        13 => gossip::learn(room, a as usize, b as usize),
-        14 => sessions::move_session(room, a as usize, b, c),
-        _ => Answer::Refused(3),
+    match step {
+        Step::Tick(s, x) => clocks::tick(room, s, x),
+        Step::Start(s) => sessions::start(room, s),
+        Step::Read(s, k, h) => sessions::read(room, s, k, h),
+        Step::Write(s, k, v) => sessions::write(room, s, k, v),
+        Step::End(s) => sessions::end(room, s),
+        Step::Prepare(t, p) => commits::prepare(room, t, p),
+        Step::Decide(t) => commits::decide(room, t),
+        Step::Commit(t, p) => commits::commit(room, t, p),
+        Step::Install(s) => replication::install(room, s),
+        Step::Deliver(to, from) => replication::deliver(room, to, from),
+        Step::Report(s) => gossip::report(room, s),
+        Step::Share(from, to) => gossip::share(room, from, to),
+        Step::Learn(s) => gossip::learn(room, s),
+        Step::Move(s, to) => {
+            sessions::move_session(room, s, to.hall.index as u64, to.partition.index as u64)
+        }
     }
 }
 
 // A step on a room that is well formed, as every room is that setup made and steps changed.
-#[tactic(auto, using(crate::specs::Face::away_answer, crate::specs::Face::away_store))]
-pub fn step_inner(room: &mut [u64], code: u64, a: u64, b: u64, c: u64) -> Answer
-    requires { (length room.old ≡ size) × (well_formed (store room.old) ≡ true) }
+#[tactic(auto, using(crate::specs::Face::inner))]
+pub fn step_inner(room: &mut Room, code: u64, a: u64, b: u64, c: u64) -> Answer
+    requires { well_formed (store room.old) ≡ true }
     ensures { Inner room.old code a b c result room.new }
 {
-    let n = ladders::refusal(room, code, a, b, c);
-    if n != 0 {
-        return Answer::Refused(n);
+    match ladders::checked(room, code, a, b, c) {
+        Ok(step) => act(room, step),
+        Err(refusal) => Answer::Refused(refusal as u64),
     }
-    act(room, code, a, b, c)
 }
 
 // A step on any room.
 pub fn step(room: &mut [u64], code: u64, a: u64, b: u64, c: u64) -> Answer
     ensures { Stepped room.old code a b c result room.new }
 {
-    if !formed::well_formed(room) {
-        return Answer::Refused(1);
+    match room.as_mut_array::<SIZE>() {
+        Some(room) if formed::well_formed(room) => step_inner(room, code, a, b, c),
+        _ => Answer::Refused(Refusal::BadRoom as u64),
     }
-    step_inner(room, code, a, b, c)
 }

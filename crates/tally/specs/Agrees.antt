@@ -1,5 +1,5 @@
 -- What is counted: the scripts whose printout is what is stored of them.
-use Rattle.std.specs.Prelude.{ℕ, zero, suc, ◌+◌, ◌-◌, ◌≤◌, ◌<◌, Bool, true, false, cond, List, ◌++◌, ◌≡◌, refl, ltb, length, take, drop, get_or}
+use Rattle.std.specs.Prelude.{ℕ, zero, suc, ◌+◌, ◌-◌, ◌≤◌, ◌<◌, Bool, true, false, cond, Option, None, Some, is_none, List, ◌++◌, ◌≡◌, refl, ltb, length, take, drop, get_or}
 use Rattle.std.proofs.lemmas.Bool.{false≢true}
 use Rattle.std.proofs.Common.{sym, ap, ◌∙◌, arith, length-append, length-drop, take_at}
 use borrow.Author.Tests.{eq-eqb, le-leb, le-ltb}
@@ -11,12 +11,10 @@ use Rattle.room.specs.Loops.{count_le}
 use Rattle.script.specs.Printout.{printed, blank}
 use Rattle.script.specs.Length.{capacity, outcome_fits}
 use Rattle.script.specs.Run.{Ran, lent}
-use Rattle.tally.specs.declared.Compared.{Compared}
-use Rattle.tally.specs.declared.Compared.TheVariants.{Same, At}
-use Rattle.tally.specs.Compare.{compared, is_same, same_text, text_same}
+use Rattle.tally.specs.Compare.{compared, same_text, text_same}
 
 -- a text's printout beside what is stored of it
-abbrev pub verdict : List ℕ → List ℕ → Compared
+abbrev pub verdict : List ℕ → List ℕ → Option ℕ
 verdict text stored = compared (printed text) stored 0
 
 -- the bytes from a up to e
@@ -24,32 +22,32 @@ abbrev pub part : List ℕ → ℕ → ℕ → List ℕ
 part bytes a e = take (e - a) (drop a bytes)
 
 -- the text from a up to b, and what is stored of it from there up to e; where the bytes have no such parts there is no agreement
-unfoldable pub verdict_of : List ℕ → ℕ → ℕ → ℕ → Compared
+unfoldable pub verdict_of : List ℕ → ℕ → ℕ → ℕ → Option ℕ
 verdict_of bytes a b e =
-    cond (ltb b a) (At 0) (cond (ltb e b) (At 0) (cond (ltb (length bytes) e) (At 0) (verdict (part bytes a b) (part bytes b e))))
+    cond (ltb b a) (Some 0) (cond (ltb e b) (Some 0) (cond (ltb (length bytes) e) (Some 0) (verdict (part bytes a b) (part bytes b e))))
 
 -- script i has the parts between three cuts
-abbrev pub verdict_at : List ℕ → List ℕ → ℕ → Compared
+abbrev pub verdict_at : List ℕ → List ℕ → ℕ → Option ℕ
 verdict_at bytes cuts i = verdict_of bytes (get_or cuts (i + i) 0) (get_or cuts (i + i + 1) 0) (get_or cuts (i + i + 2) 0)
 
 abbrev pub agrees : List ℕ → List ℕ → ℕ → Bool
-agrees bytes cuts i = is_same (verdict_at bytes cuts i)
+agrees bytes cuts i = is_none (verdict_at bytes cuts i)
 
-is_same_lem : (x : Compared) → is_same x ≡ true → x ≡ Same
-is_same_lem Same e = refl
-is_same_lem (At k) e = absurd (false≢true e)
+is_none_lem : (x : Option ℕ) → is_none x ≡ true → x ≡ None
+is_none_lem None e = refl
+is_none_lem (Some k) e = absurd (false≢true e)
 
-differs : (b : Bool) (x : Compared) → is_same (cond b (At 0) x) ≡ true → is_same x ≡ true
+differs : (b : Bool) (x : Option ℕ) → is_none (cond b (Some 0) x) ≡ true → is_none x ≡ true
 differs true x e = absurd (false≢true e)
 differs false x e = e
 
 -- it agrees exactly if its printout is what is stored
 module _ (bytes : List ℕ) (a b e : ℕ) where
-  pub agreed : is_same (verdict_of bytes a b e) ≡ true → printed (part bytes a b) ≡ part bytes b e
+  pub agreed : is_none (verdict_of bytes a b e) ≡ true → printed (part bytes a b) ≡ part bytes b e
   unfolding verdict_of
-  agreed h = same_text _ _ 0 (is_same_lem _ (differs (ltb (length bytes) e) _ (differs (ltb e b) _ (differs (ltb b a) _ h))))
+  agreed h = same_text _ _ 0 (is_none_lem _ (differs (ltb (length bytes) e) _ (differs (ltb e b) _ (differs (ltb b a) _ h))))
 
-  pub agreeing : a ≤ b → b ≤ e → e ≤ length bytes → printed (part bytes a b) ≡ part bytes b e → is_same (verdict_of bytes a b e) ≡ true
+  pub agreeing : a ≤ b → b ≤ e → e ≤ length bytes → printed (part bytes a b) ≡ part bytes b e → is_none (verdict_of bytes a b e) ≡ true
   unfolding verdict_of
   agreeing h i j q = rw (le-ltb b a h, le-ltb e b i, le-ltb (length bytes) e j, q, text_same (part bytes b e) 0)
 

@@ -1,94 +1,70 @@
 // Scripts held to what is stored of them, and how many agree.
 #![tactic(auto)]
 
-ghost use Rattle.std.specs.Prelude.{◌≡◌, ◌+◌, ◌≤◌, ◌<◌, length};
-ghost use Rattle.book.specs.Folds.{count};
-ghost use Rattle.room.specs.Layout.{size};
+ghost use Rattle.std.specs.Prelude.{◌≡◌, ◌+◌, ◌<◌, ◌≤◌, length};
+ghost use Rattle.book.specs.Folds.{count as count_of};
 ghost use Rattle.script.specs.Length.{capacity};
-ghost use Rattle.tally.specs.Compare.{compared, is_same};
+ghost use Rattle.tally.specs.Compare.{compared};
 ghost use Rattle.tally.specs.Agrees.{verdict, verdict_at, agrees};
 
-use formed::one_more;
+use room::Room;
 
-// Two texts are the same, or the first offset where they are not.
+// The scripts of a list. Script i's text lies between cuts 2i and 2i + 1, and what is stored of it between there and cut 2i + 2.
 #[derive(Clone, Copy)]
-pub enum Compared {
-    Same,
-    At(usize),
+pub struct Scripts<'a> {
+    pub bytes: &'a [u8],
+    pub cuts: &'a [usize],
+    pub count: usize,
+    ghost enough: { count + count < length cuts.now },
 }
 
-#[tactic(auto, using(crate::specs::Compare::second_longer, crate::specs::Compare::both_ended))]
-fn compare(a: &[u8], b: &[u8]) -> Compared
+// The first offset where two texts are not the same.
+fn compare(a: &[u8], b: &[u8]) -> Option<usize>
     ensures { result ≡ compared a.now b.now 0 }
 {
-    let mut i = 0;
-    while i < a.len() {
-        if i >= b.len() {
-            return Compared::At(i);
-        }
-        if a[i] != b[i] {
-            return Compared::At(i);
-        }
-        i += 1;
-    }
-    if i < b.len() {
-        return Compared::At(i);
-    }
-    Compared::Same
+    let shorter = (a.len() != b.len()).then_some(a.len().min(b.len()));
+    a.iter().zip(b).position(|(x, y)| x != y).or(shorter)
 }
 
 // A text's printout beside what is stored of it.
-fn judge(text: &[u8], stored: &[u8], room: &mut [u64], out: &mut [u8]) -> Compared
-    requires { (length room.old ≡ size) × (capacity ≤ length out.old) }
-    ensures { (length room.new ≡ size) × (length out.new ≡ length out.old) × (result ≡ verdict text.now stored.now) }
+// kept: room and buffer apart, here and in the two below, since whoever calls may lend any buffer that is long enough
+fn judge(text: &[u8], stored: &[u8], room: &mut Room, out: &mut [u8]) -> Option<usize>
+    requires { capacity ≤ length out.old }
+    ensures { result ≡ verdict text.now stored.now }
 {
     let n = script::run(text, room, out);
     compare(&out[..n], stored)
 }
 
-// Script i: its text lies between cuts 2i and 2i + 1, and what is stored of it between there and cut 2i + 2.
-pub fn judge_at(
-    bytes: &[u8],
-    cuts: &[usize],
-    i: usize,
-    room: &mut [u64],
-    out: &mut [u8],
-) -> Compared
-    requires { (i + i + 2 < length cuts.now) × (length room.old ≡ size) × (capacity ≤ length out.old) }
-    ensures { (length room.new ≡ size) × (length out.new ≡ length out.old) × (result ≡ verdict_at bytes.now cuts.now i) }
-{
-    let a = cuts[i + i];
-    let b = cuts[i + i + 1];
-    let e = cuts[i + i + 2];
-    if b < a {
-        return Compared::At(0);
+impl Scripts<'_> {
+    // The first offset where script i's printout is not what is stored of it.
+    #[tactic(auto, unfolding(crate::specs::Agrees::verdict_of))]
+    pub fn judge_at(&self, i: usize, room: &mut Room, out: &mut [u8]) -> Option<usize>
+        requires { (i < self.now.count) × (capacity ≤ length out.old) }
+        ensures { result ≡ verdict_at self.now.bytes.now self.now.cuts.now i }
+    {
+        let text = self.cuts[i + i];
+        let stored = self.cuts[i + i + 1];
+        let end = self.cuts[i + i + 2];
+        match (self.bytes.get(text..stored), self.bytes.get(stored..end)) {
+            (Some(text), Some(stored)) => judge(text, stored, room, out),
+            _ => Some(0),
+        }
     }
-    if e < b {
-        return Compared::At(0);
-    }
-    if bytes.len() < e {
-        return Compared::At(0);
-    }
-    judge(&bytes[a..b], &bytes[b..e], room, out)
-}
 
-fn is_same(x: Compared) -> bool
-    ensures { result ≡ is_same x }
-{
-    match x {
-        Compared::Same => true,
-        Compared::At(_) => false,
+    // How many of the scripts print what is stored of them.
+    #[tactic(auto, using(room::specs::Loops::count_next, room::specs::Loops::count_le), unfolding(book::specs::Folds::count))]
+    pub fn tally(&self, room: &mut Room, out: &mut [u8]) -> usize
+        requires { capacity ≤ length out.old }
+        ensures { result ≡ count_of self.now.count (agrees self.now.bytes.now self.now.cuts.now) }
+    {
+        // kept: a loop, since a closure that changes what it is lent leaves nothing proved of it
+        let mut n = 0;
+        for i in 0..self.count {
+            if self.judge_at(i, room, out).is_none() {
+                n += 1;
+            }
+        }
+        n
     }
-}
-
-// How many of the scripts print what is stored of them.
-pub fn tally(bytes: &[u8], cuts: &[usize], scripts: usize, room: &mut [u64], out: &mut [u8]) -> u64
-    requires { (scripts + scripts < length cuts.now) × (length room.old ≡ size) × (capacity ≤ length out.old) }
-    ensures { (length room.new ≡ size) × (length out.new ≡ length out.old) × (result ≡ count scripts (agrees bytes.now cuts.now)) }
-{
-    let mut n = 0;
-    for i in 0..scripts {
-        n = one_more(n, is_same(judge_at(bytes, cuts, i, room, out)));
-    }
-    n
 }

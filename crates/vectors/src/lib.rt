@@ -1,52 +1,40 @@
 // "a version vector with one entry per hall holding its partition", by value.
 #![tactic(auto)]
 
-ghost use Rattle.std.specs.Prelude.{◌≡◌, ◌<◌, length};
-ghost use Rattle.book.specs.Sizes.{halls_max, partitions_max};
-ghost use Rattle.room.specs.Layout.{size, store};
-ghost use Rattle.book.specs.Cells.{Entry};
+ghost use Rattle.std.specs.Prelude.{◌≡◌};
+ghost use Rattle.room.specs.Layout.{store};
 ghost use Rattle.vectors.specs.Vectors.{vector_of, lowest_time, updated_at};
 
-use book::{HALLS_MAX, Timestamp, Vector};
-use room::ENTRY;
+use book::{HALLS_MAX, Hall, Server, Timestamp, Vector};
+use room::{Cell, Room};
 
-fn entry(room: &[u64], h: usize, p: usize, g: usize) -> Timestamp
-    requires { (length room.now ≡ size) × (h < halls_max) × (p < partitions_max) × (g < halls_max) }
-    ensures { result.0 ≡ store room.now (Entry h p g) }
+pub fn vector_of(room: &Room, s: Server) -> Vector
+    ensures { result ≡ vector_of (store room.now) s.hall.index s.partition.index }
 {
-    Timestamp(room::get(room, ENTRY, h, p, g, 0))
-}
-
-pub fn vector_of(room: &[u64], h: usize, p: usize) -> Vector
-    requires { (length room.now ≡ size) × (h < halls_max) × (p < partitions_max) }
-    ensures { result ≡ vector_of (store room.now) h p }
-{
+    // kept: by its number, since a hall's number names its entry too; `array::from_fn` was tried, and its proof did not close
     let mut times = [Timestamp(0); HALLS_MAX];
     for f in 0..HALLS_MAX {
-        times[f] = entry(room, h, p, f);
+        times[f] = Timestamp(room::get(room, Cell::Entry(s, Hall::new(f))));
     }
     Vector {
         times,
-        holders: servers::holders(room, p),
+        holders: servers::holders(room, s.partition.index),
     }
 }
 
 pub fn lowest(v: Vector) -> Timestamp
     ensures { result.0 ≡ lowest_time v }
 {
-    let holders = v.holders;
-    let entries = v.times;
-    let mut l = times::none();
-    for g in 0..HALLS_MAX {
-        l = times::join(l, masks::has(holders, g as u64), entries[g]);
-    }
-    l.time
+    (0..HALLS_MAX)
+        .filter(|&g| masks::has(v.holders, g as u64))
+        .map(|g| v.times[g])
+        .min()
+        .unwrap_or(Timestamp(0))
 }
 
-pub fn updated(mut v: Vector, f: usize, x: Timestamp) -> Vector
-    requires { f < halls_max }
-    ensures { result ≡ updated_at v f x }
+pub fn updated(mut v: Vector, f: Hall, x: Timestamp) -> Vector
+    ensures { result ≡ updated_at v f.index x }
 {
-    v.times[f] = x;
+    v.times[f.index] = x;
     v
 }

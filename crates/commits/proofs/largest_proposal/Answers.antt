@@ -1,17 +1,9 @@
-use Rattle.std.proofs.Common.{◌≡◌, refl, arith, rules}
-use Rattle.book.specs.Sizes.{partitions_max}
-use Rattle.book.specs.Folds.{largest}
-use Rattle.room.specs.Loops.{largest_next}
+use Rattle.std.proofs.Common.{rules, refl}
+use borrow.Author.Tests.{tests}
+use Rattle.book.specs.Ranges.{largest_in_range}
 use Rattle.commits.proofs.largest_proposal.Goals as goal
 
-pub loop-p-init : goal.loop-p-init
-unfolding largest
-loop-p-init c = (search rules, refl)
-
-pub loop-p-preserved : goal.loop-p-preserved
-unfolding largest
-loop-p-preserved c = (search rules, rw (largest_next, ← c.loop-p.invariant.1) c.later_proposal-x.ensures)
-
 pub returns : goal.returns
-unfolding largest
-returns c = let l = c.loop-p in let e : l.p ≡ partitions_max = omega arith in rw e at l.invariant.1
+returns c =
+    rw c.unwrap_or.ensures (largest_in_range (λ t. t.0) c.max.result _ refl c.max.ensures.ran c.filter.ensures.source c.filter.ensures.closure
+    c.map.ensures.source c.map.ensures.closure (λ x b q k. search (rules, tests)) (λ x y q k. search (rules, tests)))

@@ -3,12 +3,8 @@ use Rattle.clocks.specs.Clocks.{hybrid_alone}
 use Rattle.commits.proofs.prepare.Goals as goal
 
 pub returns : goal.returns
-returns c = let a = c.args in
-    let clock = c.proposed_at-c in
-    let hall = c.writing_hall-h in
-    let place = c.place_of-t.ensures.0 in
-    let back = hybrid_alone (store a.room.now) hall.result a.p clock.result (rw clock.ensures) (rw clock.ensures) in (
-      c.put-2.ensures.0,
-      rw (clock.ensures, hall.ensures.0, place),
-      rw (c.put-2.ensures.1, c.put.ensures.1, c.put_back.ensures.1, back, clock.ensures, hall.ensures.0, place),
+returns c = let e = rw (c.take.ensures, c.get.ensures, c.get-2.ensures, c.session_of-session.ensures) at c.proposed-c.ensures in
+    let back = hybrid_alone (store c.args.room.now) c.writing_hall.result.index c.args.p.index c.proposed-c.result (rw e) (rw e) in (
+      rw (e, c.writing_hall.ensures),
+      rw (c.put-2.ensures, c.put.ensures, c.put_back.ensures, back, e, c.writing_hall.ensures),
     )

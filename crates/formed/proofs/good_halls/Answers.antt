@@ -1,15 +1,11 @@
+use Rattle.std.proofs.Common.{◌∙◌, rules, refl}
+use borrow.Author.Tests.{tests}
+use Rattle.book.specs.Ranges.{all_in_range}
+use Rattle.formed.specs.Blocks.{partition_ok}
+use Rattle.room.specs.Layout.{store}
 use Rattle.formed.proofs.good_halls.Goals as goal
 
-pub returns : goal.returns
-returns c = let p = c in
-    let g = p in rw (
-      c.both-3.ensures,
-      c.both-2.ensures,
-      c.both.ensures,
-      c.both-all_held.ensures,
-      p.partitions_ok.ensures,
-      p.masks_ok-masks.ensures,
-      p.partitions_held-held.ensures,
-      g.get-partitions.ensures,
-      g.get-halls.ensures,
-    )
+pub returns-then-partitions-partitions_held : goal.returns-then-partitions-partitions_held
+returns-then-partitions-partitions_held c =
+    let a = c.args in
+    all_in_range {ok = partition_ok (store a.room.now)} c.all.ensures.ran refl (λ x b q k. search (rules, tests)) ∙ search (rules, tests)

@@ -1,20 +1,15 @@
-use Rattle.std.proofs.Common.{◌≡◌, arith, rules}
+use Rattle.std.proofs.Common.{rules, arith}
+use borrow.Author.Tests.{tests}
 use Rattle.book.specs.Sizes.{places_max}
 use Rattle.room.specs.Layout.{store}
-use Rattle.room.specs.Loops.{sum_next}
-use Rattle.formed.specs.Counts.{sum_none, prepared_le, pairs_le}
+use Rattle.formed.specs.Blocks.{prepared_at}
+use Rattle.formed.specs.Counts.{pairs_le}
+use Rattle.formed.specs.Sums.{sum_in_range, sum_fits_in_range}
 use Rattle.formed.proofs.pairs_prepared.Goals as goal
 
-pub loop-t-init : goal.loop-t-init
-loop-t-init c = (search rules, sum_none _)
-
-pub overflow_add-n : goal.overflow_add-n
-overflow_add-n c = let l = c in
-    let σ = store l.args.room.now in
-    omega (arith, pairs_le l.loop-t.t σ, prepared_le σ l.loop-t.t)
-
-pub loop-t-preserved : goal.loop-t-preserved
-loop-t-preserved c = (search rules, rw (sum_next, ← c.loop-t.invariant.1, c.prepared_at-n.ensures))
+pub sum-requires-clause-fits : goal.sum-requires-clause-fits
+sum-requires-clause-fits c =
+    sum_fits_in_range {f = prepared_at (store c.args.room.now)} c.map.ensures.source c.map.ensures.closure (λ x y q k. search (rules, tests)) (omega (arith, pairs_le places_max (store c.args.room.now)))
 
 pub returns : goal.returns
-returns c = let l = c.loop-t in let e : l.t ≡ places_max = omega arith in rw e at l.invariant.1
+returns c = sum_in_range c.map.ensures.source c.map.ensures.closure (λ x y q k. search (rules, tests)) c.sum.ensures.ran

@@ -1,11 +1,16 @@
-use Rattle.std.proofs.Common.{add-one, arith, drop-cons, drop_of_length-le}
-use Rattle.ink.specs.Written.{on, ended, none}
+use Rattle.std.proofs.Common.{refl, arith, rules, ◌≡◌, ◌+◌, ◌-◌, length, append_assoc, drop-drop}
+use Rattle.std.proofs.lemmas.List.{places}
+use Rattle.std.proofs.lemmas.List.Edits.{sets-eq}
 use Rattle.ink.proofs.put_bytes.Goals as goal
 
-pub loop-i-preserved : goal.loop-i-preserved
-loop-i-preserved c =
-    rw (add-one c.loop-i.i)
-    (on c.put_byte-next.ensures (rw (drop-cons c.args.s.now c.loop-i.i 0 c.loop-i-test.true) at c.loop-i.invariant))
-
 pub returns : goal.returns
-returns c = ended (rw (drop_of_length-le c.args.s.now {i = c.loop-i.i} (omega arith)) at c.loop-i.invariant) none
+returns c =
+    let out = c.args.out.now in
+    let at = c.args.at in
+    let s = c.args.s.now in
+    let part : at + length s - at ≡ length s = omega arith in
+    record {
+      list = rw (part, sets-eq s out at c.requires.enough, append_assoc, c.copy_from_slice.ensures.after) (rw drop-drop);
+      place = refl;
+      size = search (rules, places);
+    }

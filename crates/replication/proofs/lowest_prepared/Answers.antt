@@ -1,13 +1,9 @@
-use Rattle.std.proofs.Common.{◌≡◌, ◌∙◌, arith, rules}
-use Rattle.book.specs.Sizes.{places_max}
-use Rattle.times.specs.Lowest.{lowest_none, lowest_join}
+use Rattle.std.proofs.Common.{rules, refl}
+use borrow.Author.Tests.{tests}
+use Rattle.book.specs.Ranges.{lowest_in_range}
 use Rattle.replication.proofs.lowest_prepared.Goals as goal
 
-pub loop-t-init : goal.loop-t-init
-loop-t-init c = (search rules, c.none-l.ensures ∙ lowest_none _ _)
-
-pub loop-t-preserved : goal.loop-t-preserved
-loop-t-preserved c = let l = c.loop-t in (search rules, rw (c.with_prepared-l.ensures, l.invariant.1) (lowest_join l.t _ _))
-
 pub returns : goal.returns
-returns c = let l = c.loop-t in let e : l.t ≡ places_max = omega arith in rw e at l.invariant.1
+returns c =
+    lowest_in_range (λ x. record { 0 = x }) (λ t. refl) c.min.ensures.ran c.filter.ensures.source c.filter.ensures.closure
+    c.map.ensures.source c.map.ensures.closure (λ x b q k. search (rules, tests)) (λ x y q k. search (rules, tests))

@@ -1,8 +1,7 @@
-use Rattle.book.specs.Cells.{cell}
+use Rattle.room.proofs.Named.{cell_within}
 use Rattle.room.proofs.Words.{store_get}
+use Rattle.room.specs.Named.{cell_of}
 use Rattle.room.proofs.get.Goals as goal
 
 pub returns : goal.returns
-returns c = let s = c in
-    let a = s.args in
-    rw c.place.ensures.0 (store_get a.room.now (cell a.kind a.i a.j a.k a.l) s.requires.1)
+returns c = rw c.word_of.ensures.0 (store_get c.args.room.now (cell_of c.args.c) (cell_within c.args.c))

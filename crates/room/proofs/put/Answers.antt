@@ -1,9 +1,7 @@
-use Rattle.std.proofs.Common.{rules}
-use Rattle.book.specs.Cells.{cell}
+use Rattle.room.proofs.Named.{cell_within}
 use Rattle.room.proofs.Words.{store_set}
+use Rattle.room.specs.Named.{cell_of}
 use Rattle.room.proofs.put.Goals as goal
 
 pub returns : goal.returns
-returns c = let s = c in
-    let a = s.args in
-    (search rules, rw c.place.ensures.0 (store_set a.room.now (cell a.kind a.i a.j a.k a.l) a.v s.requires.0 s.requires.1))
+returns c = rw c.word_of.ensures.0 (store_set c.args.room.now (cell_of c.args.c) c.args.v c.told-room (cell_within c.args.c))

@@ -1,14 +1,8 @@
-use Rattle.std.proofs.Common.{length, ◌-◌, ◌+◌, ◌≤◌, ◌≡◌}
+use Rattle.std.proofs.Common.{length, ◌+◌, ◌≤◌}
 use Rattle.runs.proofs.read_all.Given as goal
 
-abbrev pub invariant-loop-from : goal.invariant-loop-from
-invariant-loop-from g l =
-    (l.from ≤ length l.list + 1)
-    × (l.lines ≤ l.from)
-    × (l.lines ≤ length l.list)
-    × (l.at ≤ length l.bytes)
-    × (length l.bytes ≡ length l.initial.bytes)
-    × (length l.cuts ≡ 131073)
+abbrev pub invariant-loop-line : goal.invariant-loop-line
+invariant-loop-line g l = (l.lines + length l.rest ≤ length l.list) × (l.at ≤ length l.bytes)
 
-abbrev pub decreases-loop-from : goal.decreases-loop-from
-decreases-loop-from g l = length l.list + 1 - l.from
+abbrev pub decreases-loop-line : goal.decreases-loop-line
+decreases-loop-line g l = length l.rest

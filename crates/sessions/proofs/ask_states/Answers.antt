@@ -1,34 +1,37 @@
-use Rattle.std.proofs.Common.{◌≡◌, refl, sym, ◌∙◌, arith, rules}
+use Rattle.std.proofs.Common.{◌≡◌, sym, ◌∙◌, arith}
 use Rattle.book.specs.Sizes.{partitions_max}
-use Rattle.book.specs.Folds.{count}
+use Rattle.book.specs.Cells.{State}
+use Rattle.book.specs.Updates.{keep}
 use Rattle.room.specs.Layout.{store}
 use Rattle.room.specs.Loops.{count_next}
-use Rattle.sessions.specs.Asking.{asked_none, asked_next, asked_done}
+use Rattle.sessions.specs.Asking.{asked_next, asked_done}
+use Rattle.sessions.proofs.ask_states.Goals.{then-touches, else-touches}
 use Rattle.sessions.proofs.ask_states.Goals as goal
 
-pub loop-p-init : goal.loop-p-init
-unfolding count
-loop-p-init c = (search rules, refl, search rules, refl, sym (asked_none _ _ _))
-
-pub ask_state-n-requires : goal.ask_state-n-requires
-ask_state-n-requires c = let p = c.requires in
-    (search rules, rw c.loop-p.invariant.4 p.1, search rules, search rules, search rules)
-
 pub loop-p-preserved : goal.loop-p-preserved
-loop-p-preserved c = let l = c in
-    let a = l.args in
-    let i = l.loop-p in
-    let e = c.ask_state-n.ensures in (
-      search rules,
-      search rules,
-      e.2,
-      rw (count_next, ← i.invariant.3) (rw i.invariant.4 at e.1),
-      asked_next i.p (store a.room.now) a.t a.m e.3 i.invariant.4,
-    )
+loop-p-preserved c = let a = c.args in
+    let i = c.loop-p in
+    let t = rw c.new-partition.ensures at c.touches.ensures in
+    let q = rw i.invariant.2 at t in
+    elim c.if-touches.branch [
+      | then-touches w ↦ (
+        omega (arith, w.n-is, i.invariant.0),
+        rw (w.n-is, count_next, ← q, w.if-touches.true, ← i.invariant.1),
+        asked_next i.p (store a.room.now) a.t.index a.m
+            (rw (w.room-is, w.put.ensures, c.new-partition.ensures, ← t, w.if-touches.true))
+            i.invariant.2,
+      )
+      | else-touches w ↦ (
+        omega (arith, w.n-is, i.invariant.0),
+        rw (w.n-is, count_next, ← q, w.if-touches.false, ← i.invariant.1),
+        asked_next i.p (store a.room.now) a.t.index a.m
+            (rw (w.room-is, ← t, w.if-touches.false) (sym (keep (store i.room) (State a.t.index i.p))))
+            i.invariant.2,
+      )
+    ]
 
 pub returns : goal.returns
-returns c = let s = c in
+returns c = let a = c.args in
     let i = c.loop-p in
     let e : i.p ≡ partitions_max = omega arith in
-    let d = asked_done (store s.args.room.now) s.args.t s.args.m s.requires.1 in
-    (search rules, rw e at i.invariant.3, rw e at i.invariant.4 ∙ d)
+    (rw e at i.invariant.1, rw e at i.invariant.2 ∙ asked_done (store a.room.now) a.t.index a.m c.requires)

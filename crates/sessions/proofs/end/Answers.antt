@@ -1,21 +1,10 @@
-use Rattle.std.proofs.Common.{eq-eqb, ne_eqb, rules}
+use Rattle.std.proofs.Common.{◌≡◌, ne_eqb}
+use Rattle.book.specs.Cells.{WriteSet}
 use Rattle.room.specs.Layout.{store}
-use Rattle.sessions.specs.Asking.{place_left}
 use Rattle.sessions.proofs.end.Goals as goal
 
-pub returns-then-m-eq0 : goal.returns-then-m-eq0
-returns-then-m-eq0 c = let g = c.get-m.ensures in
-    let e = eq-eqb _ _ c.if-m-eq0.true in
-    (search rules, rw (← g, e), rw (← g, e) c.put.ensures.1)
-
-pub ask-requires : goal.ask-requires
-ask-requires c = let s = c in
-    let g = c.get-m.ensures in
-    let n = c.if-m-eq0.false in (
-      search rules,
-      search rules,
-      s.requires.2,
-      place_left (store s.args.room.now) s.args.s s.requires.3 (rw g at n),
-      g,
-      rw (← g, ne_eqb _ _ n),
-    )
+pub returns : goal.returns
+returns c =
+    let n : store c.args.room.now (WriteSet c.args.s.index) ≡ 0 → ⊥ = rw c.get-m.ensures at c.if-m-eq0.false in
+    let asked = rw (c.copy_values.ensures, c.request.ensures, c.new-t.ensures, c.get.ensures, c.get-m.ensures) at c.ask_states-n.ensures in
+    (rw (ne_eqb _ _ n, c.number_of.ensures, c.new-t.ensures, c.get.ensures, asked.0), rw (ne_eqb _ _ n) asked.1)

@@ -1,20 +1,18 @@
-use Rattle.std.proofs.Common.{◌≡◌, arith, rules}
+use Rattle.std.proofs.Common.{ℕ, rules, arith}
+use borrow.Author.Tests.{tests}
 use Rattle.book.specs.Sizes.{halls_max, partitions_max}
-use Rattle.book.specs.Folds.{sum_most}
-use Rattle.room.specs.Loops.{sum_next}
-use Rattle.formed.specs.Counts.{sum_none}
-use Rattle.setup.proofs.all_servers.Invariants.{ofHall, few}
+use Rattle.book.specs.Folds.{count, sum_most}
+use Rattle.book.specs.Servers.{holds}
+use Rattle.room.specs.Layout.{store}
+use Rattle.room.specs.Loops.{count_le}
+use Rattle.formed.specs.Sums.{sum_in_range, sum_fits_in_range}
 use Rattle.setup.proofs.all_servers.Goals as goal
 
-pub loop-h-init : goal.loop-h-init
-loop-h-init c = (search rules, sum_none _)
-
-pub overflow_add-n : goal.overflow_add-n
-overflow_add-n c = let r = c.args.room.now in
-    let h = c.loop-h.h in omega (arith, sum_most h partitions_max (ofHall r) (few r), few r h)
-
-pub loop-h-preserved : goal.loop-h-preserved
-loop-h-preserved c = (search rules, rw (sum_next, ← c.loop-h.invariant.1, c.servers_of-n.ensures))
+pub sum-requires-clause-fits : goal.sum-requires-clause-fits
+sum-requires-clause-fits c =
+    let of_hall = λ (h : ℕ). count partitions_max (holds (store c.args.room.now) h) in
+    let most = sum_most halls_max partitions_max of_hall (λ h. count_le partitions_max (holds (store c.args.room.now) h)) in
+    sum_fits_in_range {f = of_hall} c.map.ensures.source c.map.ensures.closure (λ x y q k. search (rules, tests)) (omega (arith, most))
 
 pub returns : goal.returns
-returns c = let l = c.loop-h in let e : l.h ≡ halls_max = omega arith in rw e at l.invariant.1
+returns c = sum_in_range c.map.ensures.source c.map.ensures.closure (λ x y q k. search (rules, tests)) c.sum.ensures.ran

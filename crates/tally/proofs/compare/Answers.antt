@@ -1,14 +1,16 @@
-use Rattle.std.proofs.Common.{sym, arith, eq-eqb, ne_eqb}
-use Rattle.tally.specs.Compare.{at_both, at_first}
+use Rattle.std.proofs.Common.{rules, ◌≡◌}
+use Rattle.std.specs.List.{position, zip}
+use Rattle.std.proofs.lemmas.Iterator.{YieldsList-from_slice, YieldsList-from_zip}
+use Rattle.std.proofs.lemmas.Iterator.Search.{position_from_yields_List}
+use borrow.Author.Tests.{tests}
+use Rattle.tally.proofs.Unequal.{unequal, compared_zip}
 use Rattle.tally.proofs.compare.Goals as goal
 
-pub returns-then-i-b : goal.returns-then-i-b
-returns-then-i-b c = rw (← c.loop-i.invariant) (sym (at_first _ _ _ c.loop-i-test.true c.if-i-b.true))
-
-pub returns-then-a-i : goal.returns-then-a-i
-returns-then-a-i c =
-    rw (← c.loop-i.invariant, at_both c.args.a.now c.args.b.now c.loop-i.i (omega arith) (omega arith), ne_eqb _ _ c.if-a-i.true)
-
-pub loop-i-preserved : goal.loop-i-preserved
-loop-i-preserved c =
-    rw (← c.loop-i.invariant, at_both c.args.a.now c.args.b.now c.loop-i.i (omega arith) (omega arith), eq-eqb _ _ c.if-a-i.false)
+pub returns : goal.returns
+returns c =
+    let a = c.args.a.now in
+    let b = c.args.b.now in
+    let pairs = YieldsList-from_zip {s = c.zip.result} (YieldsList-from_slice a cc) (YieldsList-from_slice b cc) in
+    let found : c.position.result ≡ position unequal (zip a b) =
+    position_from_yields_List unequal c.position.new.self _ _ c.position.ensures.ran pairs (λ x b q k. search (rules, tests)) in
+    rw (compared_zip a b, ← found) cc

@@ -1,16 +1,16 @@
-use Rattle.std.proofs.Common.{◌≡◌, arith, rules}
+use Rattle.std.proofs.Common.{◌≡◌, arith}
 use Rattle.book.specs.Sizes.{halls_max}
 use Rattle.room.specs.Layout.{store}
 use Rattle.vectors.specs.Vectors.{entries_none, entries_next}
 use Rattle.vectors.proofs.vector_of.Goals as goal
 
 pub loop-f-init : goal.loop-f-init
-loop-f-init c = let a = c.args in (search rules, entries_none (store a.room.now) a.h a.p)
+loop-f-init c = let s = c.args.s in entries_none (store c.args.room.now) s.hall.index s.partition.index
 
 pub loop-f-preserved : goal.loop-f-preserved
-loop-f-preserved c = (search rules, rw (entries_next, ← c.loop-f.invariant.1, ← c.entry.ensures))
+loop-f-preserved c = rw (entries_next, ← c.loop-f.invariant, ← c.new.ensures, ← c.get.ensures)
 
 pub returns : goal.returns
 returns c = let l = c.loop-f in
     let e : l.f ≡ halls_max = omega arith in
-    rw (c.holders.ensures, rw e at l.invariant.1)
+    rw (c.holders.ensures, rw e at l.invariant)

@@ -8,7 +8,7 @@ use Rattle.room.proofs.stretch.hold_all.Goals as goal
 
 pub loop-t-init : goal.loop-t-init
 loop-t-init c = let s = c in
-    (search rules, (s.requires, λ h p hh hp. sym (begin (row3k (Held 0 0 0).kind h p) _ _ (local h p s.args.part.now))))
+    (search rules, (c.told-part, λ h p hh hp. sym (begin (row3k (Held 0 0 0).kind h p) _ _ (local h p s.args.part.now))))
 
 pub loop-t-preserved : goal.loop-t-preserved
 loop-t-preserved c = let a = c.args in
@@ -20,7 +20,7 @@ loop-t-preserved c = let a = c.args in
         λ h p hh hp. let R = row3k (Held 0 0 0).kind h p in
             let σ = local h p a.part.now in
             rw
-            (e.1 h p hh hp, c.has.ensures, i.invariant.1.1 h p hh hp, ahead R (λ d. member a.set d.k) (λ d. 1) i.t i.t σ (omega arith))
+            (e.1 h p hh hp, c.new.ensures, c.has.ensures, i.invariant.1.1 h p hh hp, ahead R (λ d. member a.set d.k) (λ d. 1) i.t i.t σ (omega arith))
             (next R (λ d. member a.set d.k) (λ d. 1) i.t σ),
       ),
     )

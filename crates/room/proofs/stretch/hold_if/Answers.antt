@@ -5,6 +5,8 @@ use Rattle.room.proofs.StretchLaws.{local_set}
 use Rattle.room.proofs.stretch.hold_if.Goals as goal
 
 pub returns-then-test : goal.returns-then-test
-returns-then-test c = let s = c in
-    let a = s.args in
-    (search rules, λ h p hh hp. rw c.if-test.true (local_set h p a.part.now (base (Held 0 0 0).kind - servers_at + a.t) 1 (Held h p a.t) s.requires.0 (omega arith) (omega arith) (omega arith)))
+returns-then-test c =
+    let a = c.args in
+    let t = a.t.index in
+    let word = base (Held 0 0 0).kind - servers_at + t in
+    (search rules, λ h p hh hp. rw c.if-test.true (local_set h p a.part.now word 1 (Held h p t) c.told-part (omega (arith, a.t.below)) (omega (arith, a.t.below)) (omega arith)))

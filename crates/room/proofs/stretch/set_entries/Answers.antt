@@ -7,7 +7,7 @@ use Rattle.room.proofs.stretch.set_entries.Goals as goal
 
 pub loop-g-init : goal.loop-g-init
 loop-g-init c = let s = c in
-    (search rules, (s.requires, λ h p hh hp. sym (begin (row3k (Entry 0 0 0).kind h p) _ _ (local h p s.args.part.now))))
+    (search rules, (c.told-part, λ h p hh hp. sym (begin (row3k (Entry 0 0 0).kind h p) _ _ (local h p s.args.part.now))))
 
 pub loop-g-preserved : goal.loop-g-preserved
 loop-g-preserved c = let i = c.loop-g in
@@ -15,7 +15,7 @@ loop-g-preserved c = let i = c.loop-g in
       search rules,
       (
         e.0,
-        λ h p hh hp. rw (e.1 h p hh hp, i.invariant.1.1 h p hh hp)
+        λ h p hh hp. rw (e.1 h p hh hp, c.new.ensures, i.invariant.1.1 h p hh hp)
             (puts (row3k (Entry 0 0 0).kind h p) (λ d. true) _ i.g _ refl),
       ),
     )

@@ -6,4 +6,4 @@ use Rattle.room.proofs.stretch.set_hybrid.Goals as goal
 
 pub returns : goal.returns
 returns c = let a = c.args in
-    (search rules, λ h p hh hp. local_set h p a.part.now (base (Hybrid 0 0).kind - servers_at) a.x.0 (Hybrid h p) c.requires (omega arith) (omega arith) (omega arith))
+    (search rules, λ h p hh hp. local_set h p a.part.now (base (Hybrid 0 0).kind - servers_at) a.x.0 (Hybrid h p) c.told-part (omega arith) (omega arith) (omega arith))
