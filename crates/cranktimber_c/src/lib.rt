@@ -1,6 +1,6 @@
-// kept: two functions twice, here and in crates/cranktimber, since a static library exports its own functions alone, and no crate can stand on it.
 // The static library for C: the functions of crates/cranktimber under their C symbols, each with its clause again. Their header is
 // c/cranktimber.h.
+// kept: two functions twice, here and in crates/cranktimber, since a static library exports its own functions alone, and no crate can stand on it.
 #![tactic(auto)]
 
 ghost use Rattle.setup.specs.SetUp.{setup_given, setup_room, setup_store};

@@ -21,6 +21,7 @@ impl<'a> Model for SizedRoom<'a> {
 }
 
 impl<'a> SizedRoom<'a> {
+    #[inline(always)]
     pub fn new(room: &'a Room) -> Self
         requires { Sized (store room.now) }
         ensures { result ≡ room.now }
@@ -28,6 +29,7 @@ impl<'a> SizedRoom<'a> {
         SizedRoom { room }
     }
 
+    #[inline(always)]
     pub fn words(&self) -> &Room
         ensures words { result.now ≡ self.now }
         ensures sized { Sized (store self.now) }
@@ -35,6 +37,7 @@ impl<'a> SizedRoom<'a> {
         self.room
     }
 
+    #[inline(always)]
     pub fn get(&self, c: Cell) -> u64
         ensures word { result ≡ store self.now (cell_of c) }
         ensures sized { Sized (store self.now) }

@@ -70,6 +70,7 @@ pub fn start(room: &mut Room, s: Session) -> Answer
 }
 
 // Key k with value v enters one of a session's sets; `value` is the cell of k's value there.
+#[inline(always)]
 fn enter(room: &mut Room, set: Cell, value: Cell, k: Key, v: u64)
     ensures { store room.new ≡ store room.old ⟨ cell_of set ≔ include (store room.old (cell_of set)) k.index ⟩ ⟨ cell_of value ≔ v ⟩ }
 {

@@ -27,7 +27,7 @@ fn compare(a: &[u8], b: &[u8]) -> Option<usize>
 }
 
 // A text's printout beside what is stored of it.
-// kept: room and buffer apart, here and in the two below, since whoever calls may lend any buffer that is long enough
+// kept: room and buffer apart, here and in the two below: a struct of two `&mut` would have to say in each method that it keeps both loans
 fn judge(text: &[u8], stored: &[u8], room: &mut Room, out: &mut [u8]) -> Option<usize>
     requires { capacity ≤ length out.old }
     ensures { result ≡ verdict text.now stored.now }
