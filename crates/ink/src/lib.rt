@@ -25,13 +25,27 @@ pub fn put_bytes(out: &mut [u8], at: usize, s: &[u8]) -> usize
     next
 }
 
+// Not inlined: a buffer for every number would be more work than most of them are.
+#[inline(never)]
 #[tactic(auto, using(crate::proofs::Decimal::digits_is))]
-pub fn put_number(out: &mut [u8], at: usize, n: u64) -> usize
+fn put_digits(out: &mut [u8], at: usize, n: u64) -> usize
     requires { Fits out.old at (digits n) }
     ensures { Written out.old at (digits n) out.new result }
 {
     let mut buffer = Buffer::new();
     put_bytes(out, at, buffer.format(n).as_bytes())
+}
+
+// One digit, as in most answers, is one byte.
+#[tactic(auto, using(crate::proofs::Decimal::digits_one))]
+pub fn put_number(out: &mut [u8], at: usize, n: u64) -> usize
+    requires { Fits out.old at (digits n) }
+    ensures { Written out.old at (digits n) out.new result }
+{
+    if n < 10 {
+        return put_byte(out, at, b'0' + n as u8);
+    }
+    put_digits(out, at, n)
 }
 
 // A number and the byte after it.
