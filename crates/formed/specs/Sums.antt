@@ -1,5 +1,5 @@
 -- A sum over 0..n as what an iterator gives.
-use Rattle.std.specs.Prelude.{ℕ, zero, suc, List, ◌+◌, ◌<◌, ◌≡◌, refl, map}
+use Rattle.std.specs.Prelude.{ℕ, zero, suc, Bool, cond, List, ◌+◌, ◌<◌, ◌≡◌, refl, map}
 use Rattle.std.specs.List.{range_with_len, fold}
 use Rattle.std.specs.List as list
 use Rattle.std.proofs.Common.{◌∙◌, add-one, arith}
@@ -13,7 +13,8 @@ use denote.Param.Members.{Mut}
 use Rattle.std.proofs.iter.Yields.{nat_range_steps}
 use Rattle.std.proofs.lemmas.Iterator.{YieldsList, YieldsList-from_range, YieldsList-from_map}
 use Rattle.std.proofs.lemmas.Iterator.Consumers.{sum_from_yields_List, fits_from_yields_list}
-use Rattle.book.specs.Folds.{sum}
+use Rattle.book.specs.Cases.{by_test}
+use Rattle.book.specs.Folds.{count, sum}
 use Rattle.book.specs.Ranges.{Computes}
 
 sum_range : (n : ℕ) (f : ℕ → ℕ) → list.sum (map f (range_with_len 0 n)) ≡ sum n f
@@ -21,6 +22,14 @@ unfolding sum
 sum_range zero f = refl
 sum_range (suc n) f =
     rw add-one at (sum_by-map-range_with_len_more (λ y. y) f 0 n n (omega arith)) ∙ rw (sum_range n f) (omega arith)
+
+-- a one for each that passes counts them
+pub sum_counts : (n : ℕ) (ok : ℕ → Bool) → sum n (λ t. cond (ok t) 1 0) ≡ count n ok
+unfolding sum count
+sum_counts zero ok = refl
+sum_counts (suc n) ok = by_test (ok n)
+    (λ e. rw (e, sum_counts n ok) (omega arith))
+    (λ e. rw (e, sum_counts n ok) (omega arith))
 
 module _ {G : Type 0} {h : Mut G (ℕ × Unit {0}) ℕ} {s : Map (Range ℕ) G} {i : G} {n : ℕ} {f : ℕ → ℕ}
     (e : map_source s ≡ record { start = 0; end = n }) (c : map_callee s ≡ i) (k : Computes h i (λ y. y) f) where

@@ -96,8 +96,10 @@ fn prepared_at(room: &Room, t: Place) -> u64
     ensures { result ≡ prepared_at (store room.now) t.index }
 {
     (0..PARTITIONS_MAX)
-        .filter(|&p| State::Prepared as u64 <= room::get(room, Cell::State(t, Partition::new(p))))
-        .count() as u64
+        .map(|p| {
+            u64::from(State::Prepared as u64 <= room::get(room, Cell::State(t, Partition::new(p))))
+        })
+        .sum()
 }
 
 fn pairs_prepared(room: &Room) -> u64
