@@ -2,6 +2,7 @@
 #![tactic(auto)]
 
 ghost use Rattle.std.specs.Prelude.{◌≡◌, ◌+◌, ◌<◌, IfOk};
+ghost use Rattle.store.specs.Face.{step_answer, Stepped};
 ghost use Rattle.wild.specs.Counted.{counted};
 
 use book::Answer;
@@ -52,6 +53,15 @@ impl Count {
             _ => self.taken += 1,
         }
     }
+
+    // A step, and its own answer counted.
+    fn step(&mut self, room: &mut [u64], code: u64, x: u64, y: u64, z: u64)
+        requires { self.old.taken + self.old.away < 100 }
+        ensures counted { self.new ≡ counted self.old (step_answer room.old code x y z) }
+        ensures stepped { Stepped room.old code x y z (step_answer room.old code x y z) room.new }
+    {
+        self.add(store::step(room, code, x, y, z));
+    }
 }
 
 impl Display for Count {
@@ -78,7 +88,7 @@ fn steps(
         let x = numbers.next_below(m);
         let y = numbers.next_below(m);
         let z = numbers.next_below(m);
-        count.add(store::step(room, code, x, y, z));
+        count.step(room, code, x, y, z);
     }
     println!(rt; "{words}: {count}")?;
     Ok(count.taken + count.away)
